@@ -1,0 +1,5 @@
+.PHONY: test
+
+# Everything: proofs, must-fail edits, programs.
+test:
+	bash .ci/run

@@ -1,0 +1,5 @@
+pub mod Choosing
+pub mod Reaching
+pub mod Third
+pub mod Second
+pub mod First

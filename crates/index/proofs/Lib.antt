@@ -1,0 +1,4 @@
+pub mod Marks
+pub mod Holders
+pub mod Links
+pub mod Reasons

@@ -1,0 +1,2 @@
+pub mod Rebuild
+pub mod Inner

@@ -1,0 +1,5 @@
+pub mod Pushes
+pub mod Desks
+pub mod Questions
+pub mod Rooms
+pub mod Outcomes

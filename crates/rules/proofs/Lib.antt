@@ -1,0 +1,9 @@
+pub mod Logic
+pub mod Walks
+pub mod Members
+pub mod Laws
+pub mod Sweeps
+pub mod Faults
+pub mod Literals
+pub mod Definition
+pub mod Joins

@@ -1,0 +1,4 @@
+pub mod Soundness
+pub mod Stacks
+pub mod Answers
+pub mod Stamps

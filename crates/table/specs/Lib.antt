@@ -1,0 +1,6 @@
+pub mod Limits
+pub mod Table
+pub mod Stack
+pub mod Values
+pub mod Answer
+pub mod Inner
