@@ -1,10 +1,8 @@
--- Tests one after the other: when all of them pass, and what a refusal leaves. Assumes nothing.
+-- A call by what its tests come to, and the count that a refusal leaves. Assumes nothing.
 use mathlib.Core.Path.{_≡_, refl}
-use mathlib.Core.Bool.{Bool, true, false}
-use mathlib.Core.List.{List, []}
 use mathlib.Core.Option.{Option, none, some}
-use Prim.Native.Nat.{ℕ, zero, suc}
-use Rattle.table.specs.Answer.{Reply, answered, refused, paper, test, testAt, _then_, Outcome, outcome, decided}
+use Prim.Native.Nat.{ℕ}
+use Rattle.table.specs.Answer.{paper}
 use Rattle.table.specs.declared.Refusal.{Refusal}
 use Rattle.table.specs.declared.Refusal.the-variants.{BadText, OverLimit, NoRoom, BadTable, BadStack, NotBlocking, BadName, BadValues, NotModel, BadSaved}
 use Rattle.demands.specs.Calls.{newCount}
@@ -12,14 +10,6 @@ use Rattle.demands.specs.Calls.{newCount}
 pub by-tests {ℓ} : {P : Type ℓ} (o : Option Refusal) → (o ≡ none → P) → ((r : Refusal) → o ≡ some r → P) → P
 by-tests none f g = f refl
 by-tests (some r) f g = g r refl
-
-pub then-none : (a b : Option Refusal) → (a then b) ≡ none → (a ≡ none) × (b ≡ none)
-then-none none b h = (refl, h)
-then-none (some r) b h = (h, cc)
-
-pub test-none : (b : Bool) (r : Refusal) → test b r ≡ none → b ≡ true
-test-none true r h = refl
-test-none false r h = cc
 
 pub paper-count : (r : Refusal) (c : ℕ) → newCount (paper r) c ≡ c
 paper-count (BadText p) c = refl

@@ -7,7 +7,6 @@ use mathlib.Core.Option.{Option, none, some}
 use Prim.Native.Nat.{ℕ, _≤_}
 use native.Mathlib.Omega.{arith}
 use denote.Ref.{RefT}
-use Rattle.rules.specs.Clause.{Clause}
 use Rattle.table.specs.Limits.{base}
 use Rattle.table.specs.Table.{Table, sound, handedOut, handedFrom}
 use Rattle.table.specs.Inner.{Stretch}

@@ -1,34 +1,34 @@
 -- Every stack that removal calls lead to is valid, and so passes every test of a later call. Assumes nothing.
-use mathlib.Core.Path.{_≡_, refl, sym, _∙_, ap}
-use mathlib.Core.Bool.{Bool, true, false, _&&_}
+use mathlib.Core.Path.{_≡_, refl, ap}
+use mathlib.Core.Bool.{Bool, true}
 use mathlib.Core.List.{List, [], _∷_, _++_}
 use mathlib.Core.Option.{Option, none, some}
-use Prim.Native.Nat.{ℕ, zero, suc, _+_, _*_, _≤_, _<_}
+use Prim.Native.Nat.{ℕ, suc, _+_, _*_, _≤_, _<_}
 use native.Mathlib.Omega.{arith}
 use native.Mathlib.Numerals.{add-one}
 use borrow.Author.Tests.{le-leb}
-use lib.Dec.{leb}
 use lib.ListN.{length}
 use Rattle.rules.specs.Walk.{upto}
 use Rattle.rules.specs.Blocking.{literal}
-use Rattle.rules.specs.Book.{Book, Live, all, Entry, after, blocks, valid, fault}
+use Rattle.rules.specs.Book.{all, blocks, valid}
 use Rattle.rules.proofs.Logic.{and-true}
 use Rattle.rules.proofs.Laws.{Within, all-within, blocks-fits}
 use Rattle.rules.proofs.Sweeps.{tally, tally-le, tally-less, removed, valid-append, within-after}
 use Rattle.rules.proofs.Faults.{right, valid-fault, fault-weaker}
 use Rattle.table.specs.Limits.{base}
-use Rattle.table.specs.Table.{Table, row, bookOf, sound}
+use Rattle.table.specs.Table.{Table, bookOf, sound}
 use Rattle.table.specs.Stack.{entries, push}
-use Rattle.table.specs.Answer.{Outcome, decided}
 use Rattle.table.specs.declared.Refusal.{Refusal}
 use Rattle.table.specs.declared.Refusal.the-variants.{NotBlocking, BadName}
 use Rattle.table.specs.Answer.{test, _then_}
+use Rattle.table.proofs.Answers.{then-none, test-none}
 use Rattle.table.proofs.Stacks.{length-entries, entries-push, length-push}
-use Rattle.stack.specs.Tests.{tableTests, entryTests, blockingTests, entryNames, badEntry, entryBlocks, unblockedEntry, liveAfter}
+use Rattle.stack.specs.Tests.{tableTests, lentTests, blockingTests, entryNames, badEntry, entryBlocks, unblockedEntry, liveAfter}
+use Rattle.stack.proofs.Refusals.{passed-lent}
 use Rattle.removal.specs.Removal.{removalTests, removal}
 use Rattle.demands.specs.Calls.{Stack, stack, Call, called, calls}
 use Rattle.demands.specs.Demands.{Start, reached}
-use Rattle.demands.proofs.Choosing.{by-tests, then-none, test-none, paper-count}
+use Rattle.demands.proofs.Choosing.{by-tests, paper-count}
 
 -- a stack with room whose entries are a valid sequence of removals
 pub record Valid (t : Table) (s : Stack) : Type 0 where
@@ -74,17 +74,15 @@ module _ (t : Table) (s : Stack) (v : Valid t s) where
       (all (bookOf t)) (entries (s .words) (s .count))
       (valid-fault literal (bookOf t) (all (bookOf t)) (entries (s .words) (s .count)) (v .right))
 
-  pub entry-tests : entryTests t (s .words) (s .count) ≡ none
-  entry-tests = rw (le-leb _ _ count-small, none-bad)
+  -- the tests that come first pass, and so do those of the entries' literals
+  pub lent-tests : sound base t ≡ true → (room : Bool) → room ≡ true → lentTests base t (s .words) (s .count) room ≡ none
+  lent-tests h room r = rw (r, passed-lent t (s .words) (s .count) (record { table-sound = h; room = v .room; count = count-small; none-bad = none-bad }))
 
   pub blocking-tests : blockingTests t (s .words) (s .count) ≡ none
   blocking-tests = rw none-unblocked
 
 pub table-tests : (t : Table) (ws : List ℕ) → Start t ws → tableTests base t ws ≡ none
 table-tests t ws st = rw (st .table-sound, le-leb _ _ (st .room))
-
-pub start-of : (t : Table) (s : Stack) → sound base t ≡ true → Valid t s → Start t (s .words)
-start-of t s h v = record { table-sound = h; room = v .room }
 
 -- one removal more
 valid-more : (t : Table) (ws : List ℕ) (c k l : ℕ) → valid literal (bookOf t) (all (bookOf t)) (entries ws c) ≡ true
@@ -118,7 +116,7 @@ module _ (t : Table) (s : Stack) (x : Call) where
       rest : sound base t ≡ true → Valid t s → tests ≡ none
           → (test (entryNames t (liveAfter t (s .words) (s .count)) (x .clause, x .literal)) BadName
           then test (blocks literal (bookOf t) (liveAfter t (s .words) (s .count)) (x .clause) (x .literal)) (NotBlocking (x .clause))) ≡ none
-      rest h v n = rw (table-tests t (s .words) (start-of t s h v), entry-tests t s v) at n
+      rest h v n = rw (lent-tests t s v h true refl) at n
 
       pushed : Valid t s → entryNames t (liveAfter t (s .words) (s .count)) (x .clause, x .literal) ≡ true
           → blocks literal (bookOf t) (liveAfter t (s .words) (s .count)) (x .clause) (x .literal) ≡ true

@@ -1,34 +1,32 @@
 -- Demand 2, first sentence: eliminate leaves exactly what the definition of blocked clause elimination leaves, by removals that calls could have made.
 -- Assumes nothing.
 use mathlib.Core.Path.{_≡_, refl, sym, _∙_, ap, subst}
-use mathlib.Core.Bool.{Bool, true, false, _&&_}
+use mathlib.Core.Bool.{true}
 use mathlib.Core.List.{List, [], _∷_, _++_, append-assoc, append-nil}
-use mathlib.Core.Option.{Option, none, some}
-use Prim.Native.Nat.{ℕ, zero, suc, _+_, _*_, _≤_, _<_}
+use mathlib.Core.Option.{none}
+use Prim.Native.Nat.{ℕ, suc, _+_, _*_, _≤_, _<_}
 use native.Mathlib.Omega.{arith}
-use borrow.Author.Tests.{le-leb}
 use lib.ListN.{length}
 use Rattle.rules.specs.Walk.{upto}
 use Rattle.rules.specs.Blocking.{literal}
-use Rattle.rules.specs.Book.{Live, all, less, Entry, after, blocks, valid}
-use Rattle.rules.specs.Elimination.{eliminate, remainder, nextBlocked}
+use Rattle.rules.specs.Book.{all, less, Entry, after, blocks, valid}
+use Rattle.rules.specs.Elimination.{remainder}
 use Rattle.rules.proofs.Logic.{and-true}
 use Rattle.rules.proofs.Laws.{Stuck, blocks-fits}
 use Rattle.rules.proofs.Sweeps.{after-append, eliminate-valid, remainder-stuck, stuck-next}
 use Rattle.rules.proofs.Literals.{literal-sound}
 use Rattle.table.specs.Limits.{base}
-use Rattle.table.specs.Table.{Table, row, bookOf, sound}
-use Rattle.table.specs.Stack.{entries, words, lay, push}
-use Rattle.table.specs.Answer.{Reply, answered, Outcome}
+use Rattle.table.specs.Table.{Table, bookOf, sound}
+use Rattle.table.specs.Stack.{entries, words, push}
 use Rattle.table.proofs.Stacks.{entries-push}
 use Rattle.stack.specs.Tests.{entryNames, liveAfter}
 use Rattle.removal.specs.Removal.{removalTests, removals, elimination, question}
 use Rattle.removal.specs.Inner.{pushAll}
 use Rattle.removal.proofs.Pushes.{pushAll-lay}
-use Rattle.demands.specs.Calls.{Stack, stack, Call, called, calls, live}
-use Rattle.demands.specs.Demands.{Start, reached, NoneCanGo, NoneBlocked, Eliminated, EliminatesAll, LeavesTheRemainder}
-use Rattle.demands.proofs.Reaching.{Valid, count-small, count-below, entry-tests, table-tests, start-of, made-call, made-valid, empty-valid, reached-valid}
-use Rattle.demands.proofs.Third.{none-stuck, same-remainder}
+use Rattle.demands.specs.Calls.{Stack, stack, Call, calls, live}
+use Rattle.demands.specs.Demands.{Start, reached, NoneCanGo, NoneBlocked, EliminatesAll, LeavesTheRemainder}
+use Rattle.demands.proofs.Reaching.{Valid, count-small, count-below, lent-tests, table-tests, made-call, made-valid, empty-valid, reached-valid}
+use Rattle.demands.proofs.Third.{same-remainder}
 
 -- the calls that make the removals of a list
 unfoldable callsOf : List (Entry literal) → List Call
@@ -41,7 +39,7 @@ module _ (t : Table) (h : sound base t ≡ true) where
       → removalTests base t (s .words) (s .count) k l ≡ none
   unfolding entryNames
   tests-pass s v k l a b =
-      rw (table-tests t (s .words) (start-of t s h v), entry-tests t s v, a, blocks-fits literal (bookOf t) (live t s) k l b, b)
+      rw (lent-tests t s v h true refl, a, blocks-fits literal (bookOf t) (live t s) k l b, b)
 
   live-push : (s : Stack) → Valid t s → (k l : ℕ) → live t s k ≡ true → live t (stack (push (s .words) (s .count) k l) (suc (s .count))) ≡ less (live t s) k
   live-push s v k l a = at (omega (arith, v .room, count-below t s v k a))
@@ -82,7 +80,7 @@ module _ (t : Table) (h : sound base t ≡ true) where
 stuck-none : (t : Table) (s : Stack) → sound base t ≡ true → Valid t s → Stuck literal (bookOf t) (live t s) → NoneCanGo t s
 unfolding question words
 stuck-none t s h v n =
-    rw (table-tests t (s .words) (start-of t s h v), entry-tests t s v, stuck-next literal (bookOf t) (live t s) n (t .clauses))
+    rw (lent-tests t s v h true refl, stuck-next literal (bookOf t) (live t s) n (t .clauses))
 
 module _ (t : Table) (ws : List ℕ) (st : Start t ws) where
   -- the stack after the removals of elimination

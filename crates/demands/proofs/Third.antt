@@ -1,36 +1,34 @@
 -- Demand 3: the order of removal calls does not matter, and rebuild leads back from the remaining rules to the whole input. Assumes nothing.
-use mathlib.Core.Path.{_≡_, refl, sym, _∙_, ap}
-use mathlib.Core.Bool.{Bool, true, false, not, _&&_}
+use mathlib.Core.Path.{_≡_, refl, _∙_, ap}
+use mathlib.Core.Bool.{true, not}
 use mathlib.Core.List.{List, [], _∷_}
-use mathlib.Core.Option.{Option, none, some}
-use Prim.Native.Nat.{ℕ, suc, _+_, _-_, _*_, _/_, _≤_, _<_}
+use mathlib.Core.Option.{none}
+use Prim.Native.Nat.{ℕ, _-_, _/_}
 use native.Mathlib.Omega.{arith}
-use borrow.Author.Tests.{le-leb, leb-true}
-use lib.Dec.{leb}
-use lib.ListN.{length, getD}
-use Rattle.rules.specs.Clause.{Values, mem, holds}
+use borrow.Author.Tests.{le-leb}
+use Rattle.rules.specs.Clause.{Values}
 use Rattle.rules.specs.Blocking.{literal}
-use Rattle.rules.specs.Book.{Live, all, Entry, after, valid}
+use Rattle.rules.specs.Book.{Live, all, Entry}
 use Rattle.rules.specs.Elimination.{nextBlocked}
-use Rattle.rules.specs.Rebuild.{walk, fails, falsified}
-use Rattle.rules.proofs.Logic.{and-true, by-bool, differ, not-false}
+use Rattle.rules.specs.Rebuild.{fails, falsified}
+use Rattle.rules.proofs.Logic.{by-bool}
 use Rattle.rules.proofs.Walks.{none-least}
-use Rattle.rules.proofs.Laws.{Within, all-within, Stuck, confluent, satisfiable, rebuilt as model-rebuilt}
+use Rattle.rules.proofs.Laws.{all-within, Stuck, confluent, satisfiable, rebuilt as model-rebuilt}
 use Rattle.rules.proofs.Sweeps.{next-stuck}
 use Rattle.rules.proofs.Literals.{literal-sound}
 use Rattle.table.specs.Limits.{base}
 use Rattle.table.specs.Table.{Table, row, bookOf, sound}
 use Rattle.table.specs.Stack.{entries, words, lay}
 use Rattle.table.specs.Values.{valuesOf, bytesOf, badByte, badValue}
-use Rattle.table.specs.Answer.{Reply, answered, Outcome}
+use Rattle.table.specs.Answer.{answered}
 use Rattle.table.proofs.Soundness.{sound-of, literal-coded}
 use Rattle.stack.specs.Tests.{liveAfter}
 use Rattle.removal.specs.Removal.{question}
 use Rattle.rebuild.specs.Rebuild.{rebuildTests, rebuilt, rebuilding}
 use Rattle.rebuild.proofs.Bytes.{values-laid, holds-agree}
-use Rattle.demands.specs.Calls.{Stack, Call, live}
-use Rattle.demands.specs.Demands.{Start, reached, NoneCanGo, Satisfies, SameRemainder, Choice, rebuiltBy, RebuildsAll, SatisfiableAlike}
-use Rattle.demands.proofs.Reaching.{Valid, live-within, entry-tests, blocking-tests, table-tests, start-of, reached-valid}
+use Rattle.demands.specs.Calls.{Stack, live}
+use Rattle.demands.specs.Demands.{reached, NoneCanGo, Satisfies, SameRemainder, Choice, rebuiltBy, RebuildsAll, SatisfiableAlike}
+use Rattle.demands.proofs.Reaching.{Valid, live-within, lent-tests, blocking-tests, reached-valid}
 
 answered-nothing : (s : List (Entry literal)) → answered (words s) ≡ answered [] → s ≡ []
 unfolding words
@@ -42,7 +40,7 @@ pub none-stuck : (t : Table) (s : Stack) → sound base t ≡ true → Valid t s
 unfolding question
 none-stuck t s h v q =
     next-stuck literal (bookOf t) literal-sound (live t s) (live-within t s v)
-    (answered-nothing (nextBlocked literal (bookOf t) (live t s) (t .clauses)) (rw (table-tests t (s .words) (start-of t s h v), entry-tests t s v) at q))
+    (answered-nothing (nextBlocked literal (bookOf t) (live t s) (t .clauses)) (rw (lent-tests t s v h true refl) at q))
 
 same-live : (t : Table) (s s' : Stack) → Valid t s → Valid t s' → Stuck literal (bookOf t) (live t s) → Stuck literal (bookOf t) (live t s') → live t s ≡ live t s'
 unfolding liveAfter
@@ -70,9 +68,7 @@ rebuild-tests : (t : Table) (s : Stack) (vs : List ℕ) → sound base t ≡ tru
     → rebuildTests base t (s .words) (s .count) vs ≡ none
 rebuild-tests t s vs h v ch m =
     rw (
-      table-tests t (s .words) (start-of t s h v),
-      le-leb _ _ (ch .room),
-      entry-tests t s v,
+      lent-tests t s v h _ (le-leb _ _ (ch .room)),
       blocking-tests t s v,
       no-bad-value t vs ch,
       none-false t (live t s) (valuesOf vs) m,

@@ -1,47 +1,26 @@
 -- The occurrence index while it is built: a clause is linked literal by literal, behind the clauses above it. Assumes nothing.
 use mathlib.Core.Path.{_≡_, sym, _∙_, ap}
 use mathlib.Core.Bool.{Bool, true, false, _||_, cond}
-use mathlib.Core.List.{List, [], _∷_}
-use mathlib.Core.Logic.{_≢_, ⊎-elim}
-use Prim.Native.Nat.{ℕ, zero, suc, _+_, _-_, _≤_, _<_}
+use mathlib.Core.List.{List}
+use mathlib.Core.Logic.{_≢_}
+use Prim.Native.Nat.{ℕ, suc, _+_, _-_, _≤_, _<_}
 use native.Mathlib.Nat.{le-refl}
-use native.Mathlib.Numerals.{add-one}
 use native.Mathlib.Omega.{arith}
-use borrow.Author.Tests.{eq-eqb, ne-eqb, not-true}
+use borrow.Author.Tests.{eq-eqb, ne-eqb}
 use lib.Dec.{eqb}
 use lib.ListN.{length, getD, take, drop, set, length-set}
-use lib.Seq.{take-suc, take-length, getD-set-same, getD-set-other}
-use Rattle.rules.specs.Walk.{any}
+use lib.Seq.{take-length, getD-set-same, getD-set-other}
 use Rattle.rules.specs.Clause.{Clause, mem}
-use Rattle.rules.proofs.Logic.{by-bool, by-eq, differ, and-true, or-no, or-yes, not-false}
-use Rattle.rules.proofs.Walks.{any-next, any-end, any-append}
-use Rattle.rules.proofs.Members.{mem-nil, mem-cons}
+use Rattle.rules.proofs.Logic.{by-bool, by-eq, differ, or-no, or-yes}
+use Rattle.rules.proofs.Walks.{any-next, any-end}
+use Rattle.rules.proofs.Members.{mem-nil, mem-at, mem-next}
 use Rattle.table.specs.Limits.{base}
-use Rattle.table.specs.Table.{Table, offset, row, distinct, sound}
+use Rattle.table.specs.Table.{Table, offset, row, sound}
 use Rattle.table.specs.Inner.{Shape}
-use Rattle.table.proofs.Soundness.{Sound, sound-of, climb, row-length, row-at, row-distinct, literal-coded, mem-at}
+use Rattle.table.proofs.Soundness.{Sound, sound-of, climb, row-length, row-at, row-distinct, literal-coded, fresh-at}
 use Rattle.index.specs.Index.{holderAbove, Indexed}
 use Rattle.index.specs.Inner.{Linking}
 use Rattle.index.proofs.Holders.{holder-here, holder-skips, holder-none}
-
--- the literal at a place of a clause in which none stands twice is not among those before it
-fresh-at : (C : Clause) (i : ℕ) → distinct C ≡ true → i < length C → mem (getD C i 0) (take i C) ≡ false
-unfolding distinct
-fresh-at [] i d h = absurd (omega arith)
-fresh-at (y ∷ C) zero d h = mem-nil y
-fresh-at (y ∷ C) (suc i) d h =
-    let q = simp and-true at d in
-    let own : mem (getD C i 0) C ≡ true = mem-at C i (omega arith) in
-    not-false _ (λ m. ⊎-elim
-    (λ e. differ (rw e at own) (not-true _ (q .0)))
-    (λ r. differ r (fresh-at C i (q .1) (omega arith)))
-    (mem-cons (getD C i 0) y (take i C) m))
-
--- one literal more of a clause
-mem-more : (x : ℕ) (C : Clause) (i : ℕ) → i < length C → mem x (take (i + 1) C) ≡ (mem x (take i C) || eqb x (getD C i 0))
-unfolding mem any
-mem-more x C i h =
-    rw (add-one, take-suc C i 0) (any-append (eqb x) (take i C) (getD C i 0 ∷ []) ∙ ap (λ (b : Bool). any (eqb x) (take i C) || b) (or-no _))
 
 -- the clauses above clause k are linked, and the literals of clause k that stand before place p of the literal buffer
 pub record Filling (t : Table) (heads nexts : List ℕ) (k p : ℕ) : Type 0 where
@@ -118,7 +97,7 @@ module _ (t : Table) (s : Sound t) (k : ℕ) (low : 1 ≤ k) (high : k ≤ t .cl
       x = getD (t .lits) p 0
 
       more : (y : ℕ) → mem y (take (p + 1 - offset t (k - 1)) C) ≡ (mem y (take i C) || eqb y x)
-      more y = let e : p + 1 - offset t (k - 1) ≡ i + 1 = omega arith in rw (e, ← place-literal) (mem-more y C i place-in)
+      more y = let e : p + 1 - offset t (k - 1) ≡ suc i = omega arith in rw (e, ← place-literal) (mem-next y C i place-in)
 
       fresh : mem x (take i C) ≡ false
       fresh = rw (← place-literal) (fresh-at C i (row-distinct t s k low high) place-in)

@@ -3,7 +3,7 @@ use mathlib.Core.Path.{_≡_, refl, sym, _∙_, ap}
 use mathlib.Core.Bool.{Bool, true, false}
 use mathlib.Core.List.{List, [], _∷_}
 use mathlib.Core.Logic.{_≢_}
-use Prim.Native.Nat.{ℕ, zero, suc, _+_, _*_, _≤_, _<_}
+use Prim.Native.Nat.{ℕ, zero, suc, _+_, _≤_, _<_}
 use native.Mathlib.Numerals.{add-one}
 use native.Mathlib.Omega.{arith}
 use borrow.Author.Tests.{ne-eqb}
@@ -14,8 +14,9 @@ use Rattle.rules.specs.Blocking.{resists, literal}
 use Rattle.rules.specs.Book.{Book, Live, Entry, bars, obstacle, blocks}
 use Rattle.rules.specs.Elimination.{firstReason, turn}
 use Rattle.rules.proofs.Logic.{and-no}
+use Rattle.rules.proofs.Members.{own-at}
 use Rattle.table.specs.Table.{Table, row, bookOf}
-use Rattle.table.proofs.Soundness.{Sound, literal-coded, mem-at}
+use Rattle.table.proofs.Soundness.{Sound, literal-coded}
 use Rattle.index.specs.Index.{entryOf}
 
 module _ (b : Book) (L : Live) (C : Clause) (l j : ℕ) where
@@ -36,11 +37,6 @@ module _ (b : Book) (L : Live) (C : Clause) (l j : ℕ) where
   pub bars-told : (D : Clause) (r : Bool) → D ≡ C → r ≡ bars literal b L D l j → bars literal b L C l j ≡ r
   bars-told D r e h = rw (← e) (sym h)
 
--- the negation of a variable's code or of its negation's is such a code
-pub neg-coded : (n l : ℕ) → l ≤ 2 * n + 1 → neg l ≤ 2 * n + 1
-unfolding neg
-neg-coded n l h = omega arith
-
 -- the code of a literal is not 0
 pub entry-of : (k l : ℕ) → 1 ≤ l → entryOf k l ≡ (k, l) ∷ []
 entry-of k zero h = absurd (omega arith)
@@ -55,10 +51,6 @@ module _ (b : Book) (L : Live) (k : ℕ) where
   pub turn-gone : L k ≡ false → turn literal b L k ≡ []
   unfolding turn
   turn-gone h = rw h
-
--- a literal of D, which is the clause C
-pub own-at : (C D : Clause) → D ≡ C → (i : ℕ) → i < length D → mem (getD D i 0) C ≡ true
-own-at C D e i h = sym (ap (mem (getD D i 0)) e) ∙ mem-at D i h
 
 -- a loop over D, which is clause k: none of its first i literals blocks it
 module _ (t : Table) (L : Live) (k : ℕ) (D : Clause) (whole : D ≡ row t k) (i : ℕ) where

@@ -1,97 +1,69 @@
 -- Rebuild's tests in the order of document 01: what the call comes to at the first that refuses, and where none does. Assumes nothing.
-use mathlib.Core.Path.{_≡_, refl, sym, _∙_}
-use mathlib.Core.Bool.{true, false}
+use mathlib.Core.Path.{_≡_, sym, _∙_}
 use mathlib.Core.List.{List, []}
 use mathlib.Core.Option.{some}
-use Prim.Native.Nat.{ℕ, zero, suc, _*_, _≤_, _<_}
+use Prim.Native.Nat.{ℕ, _≤_, _<_}
 use native.Mathlib.Omega.{arith}
-use borrow.Author.Tests.{le-leb, lt-leb}
+use borrow.Author.Tests.{le-leb}
+use lib.Dec.{leb}
 use lib.ListN.{length}
-use Rattle.rules.specs.Book.{Live}
 use Rattle.rules.specs.Rebuild.{falsified}
 use Rattle.table.specs.Limits.{base}
-use Rattle.table.specs.Table.{Table, bookOf, sound}
+use Rattle.table.specs.Table.{Table, bookOf}
 use Rattle.table.specs.Stack.{lay}
 use Rattle.table.specs.Values.{valuesOf, bytesOf, badValue}
-use Rattle.table.specs.Answer.{answered, refused, testAt, _then_, outcome, decided}
+use Rattle.table.specs.Answer.{answered, refused, verdict, testAt, _then_, outcome, decided}
 use Rattle.table.specs.declared.Refusal.{Refusal}
-use Rattle.table.specs.declared.Refusal.the-variants.{BadStack, NotBlocking, BadValues, NotModel}
-use Rattle.stack.specs.Tests.{badEntry, unblockedEntry, liveAfter}
+use Rattle.table.specs.declared.Refusal.the-variants.{NotBlocking, BadValues, NotModel}
+use Rattle.table.specs.declared.Verdict.the-variants.{Refused}
+use Rattle.table.proofs.Answers.{testAt-some, nowhere}
+use Rattle.index.specs.Index.{liveOf}
+use Rattle.stack.specs.Tests.{lentTests, unblockedEntry, liveAfter}
+use Rattle.stack.specs.Inner.{Passed, Checked}
+use Rattle.stack.proofs.Refusals.{passed-lent}
 use Rattle.rebuild.specs.Rebuild.{rebuilt, rebuilding}
-use Rattle.rebuild.specs.Inner.{Valued, Sorted}
+use Rattle.rebuild.specs.Inner.{Valued}
 use Rattle.rebuild.proofs.Bytes.{values-good}
 
--- a place that is not 0 refuses
-testAt-refuses : (place : ℕ) (f : ℕ → Refusal) → 0 < place → testAt place f ≡ some (f place)
-testAt-refuses zero f h = absurd (omega arith)
-testAt-refuses (suc place) f h = refl
-
--- a place that was found is 0, unless it is above
-pub nowhere : (place : ℕ) {found : ℕ} → found ≡ place → found ≤ 0 → place ≡ 0
-nowhere place e h = omega arith
-
--- the tests that a table, a stack and values pass by their sizes
-pub record Sized (t : Table) (ws : List ℕ) (c : ℕ) (vs : List ℕ) : Type 0 where
-  pub table-sound : sound base t ≡ true
-  pub room : 2 * t .clauses ≤ length ws
-  pub many : t .variables ≤ length vs
-  pub count : c ≤ t .clauses
-
+-- one of the tests that come first refuses
 module _ (t : Table) (ws : List ℕ) (c : ℕ) (vs : List ℕ) where
-  pub refuses-table : sound base t ≡ false → outcome (refused 4 0) vs ≡ rebuilding base t ws c vs
+  pub rebuild-refused : (r : Refusal) → lentTests base t ws c (leb (t .variables) (length vs)) ≡ some r → outcome (verdict (Refused r)) vs ≡ rebuilding base t ws c vs
   unfolding rebuilding
-  refuses-table f = rw f
+  rebuild-refused r h = rw h
 
-  module _ (s : sound base t ≡ true) where
-    pub refuses-stack-room : length ws < 2 * t .clauses → outcome (refused 3 0) vs ≡ rebuilding base t ws c vs
-    unfolding rebuilding
-    refuses-stack-room f = rw (s, lt-leb (2 * t .clauses) (length ws) f)
-
-    module _ (room : 2 * t .clauses ≤ length ws) where
-      pub refuses-values-room : length vs < t .variables → outcome (refused 3 0) vs ≡ rebuilding base t ws c vs
-      unfolding rebuilding
-      refuses-values-room f = rw (s, le-leb (2 * t .clauses) (length ws) room, lt-leb (t .variables) (length vs) f)
-
-      pub refuses-count : t .variables ≤ length vs → t .clauses < c → outcome (refused 5 0) vs ≡ rebuilding base t ws c vs
-      unfolding rebuilding
-      refuses-count many f = rw (s, le-leb (2 * t .clauses) (length ws) room, le-leb (t .variables) (length vs) many, lt-leb c (t .clauses) f)
-
-  module _ (z : Sized t ws c vs) where
-    -- the tests that give a place are left
-    placed : rebuilding base t ws c vs ≡ decided (testAt (badEntry t ws c) BadStack
-        then testAt (unblockedEntry t ws c) NotBlocking
+  module _ (p : Passed t ws c) (many : t .variables ≤ length vs) where
+    -- all of them pass: the tests that give a place are left
+    placed : rebuilding base t ws c vs ≡ decided (testAt (unblockedEntry t ws c) NotBlocking
         then testAt (badValue vs (t .variables)) BadValues
         then testAt (falsified (bookOf t) (liveAfter t ws c) (valuesOf vs)) NotModel)
         vs (outcome (answered []) (lay (bytesOf (rebuilt t ws c vs) (t .variables)) vs))
     unfolding rebuilding
-    placed = rw (
-      z .table-sound,
-      le-leb (2 * t .clauses) (length ws) (z .room),
-      le-leb (t .variables) (length vs) (z .many),
-      le-leb c (t .clauses) (z .count),
-    )
+    placed = rw (le-leb (t .variables) (length vs) many, passed-lent t ws c p)
 
-    pub refuses-entry : (r : ℕ) → r ≡ badEntry t ws c → 0 < r → outcome (refused 5 r) vs ≡ rebuilding base t ws c vs
-    refuses-entry r e p = sym (placed ∙ rw (← e, testAt-refuses r BadStack p))
+    pub valued : {found : ℕ} → found ≡ badValue vs (t .variables) → found ≤ 0 → Valued t vs
+    valued e h = record { table-sound = p .table-sound; room = many; bits = values-good vs (t .variables) (nowhere _ e h) }
 
-    pub sorted : badEntry t ws c ≡ 0 → Sorted t ws c
-    sorted good = record { room = z .room; count = z .count; good = good }
+    module _ {marks : List ℕ} {r : ℕ} (k : Checked t ws c marks r) where
+      pub refuses-unblocked : 0 < r → outcome (refused 6 r) vs ≡ rebuilding base t ws c vs
+      refuses-unblocked l = sym (placed ∙ rw (testAt-some _ NotBlocking (k .unblocked) l))
 
-    pub valued : badValue vs (t .variables) ≡ 0 → Valued t vs
-    valued bits = record { table-sound = z .table-sound; room = z .many; bits = values-good vs (t .variables) bits }
+      module _ (h : r ≤ 0) {v : ℕ} (e : v ≡ badValue vs (t .variables)) where
+        blocked : unblockedEntry t ws c ≡ 0
+        blocked = nowhere _ (k .unblocked) h
 
-    module _ (good : badEntry t ws c ≡ 0) where
-      pub refuses-unblocked : (r : ℕ) → r ≡ unblockedEntry t ws c → 0 < r → outcome (refused 6 r) vs ≡ rebuilding base t ws c vs
-      refuses-unblocked r e p = sym (placed ∙ rw (good, ← e, testAt-refuses r NotBlocking p))
+        pub refuses-value : 0 < v → outcome (refused 8 v) vs ≡ rebuilding base t ws c vs
+        refuses-value l = sym (placed ∙ rw (blocked, testAt-some _ BadValues e l))
 
-      module _ (blocked : unblockedEntry t ws c ≡ 0) where
-        pub refuses-value : (r : ℕ) → r ≡ badValue vs (t .variables) → 0 < r → outcome (refused 8 r) vs ≡ rebuilding base t ws c vs
-        refuses-value r e p = sym (placed ∙ rw (good, blocked, ← e, testAt-refuses r BadValues p))
+        module _ (b : v ≤ 0) {f : ℕ} (g : f ≡ falsified (bookOf t) (liveOf marks) (valuesOf vs)) where
+          bits : badValue vs (t .variables) ≡ 0
+          bits = nowhere _ e b
 
-        module _ (bits : badValue vs (t .variables) ≡ 0) (L : Live) (after : L ≡ liveAfter t ws c) where
-          pub refuses-clause : (r : ℕ) → r ≡ falsified (bookOf t) L (valuesOf vs) → 0 < r → outcome (refused 9 r) vs ≡ rebuilding base t ws c vs
-          refuses-clause r e p = sym (placed ∙ rw (good, blocked, bits, ← after, ← e, testAt-refuses r NotModel p))
+          told : f ≡ falsified (bookOf t) (liveAfter t ws c) (valuesOf vs)
+          told = rw (k .live (omega arith)) at g
 
-          pub accepts : falsified (bookOf t) L (valuesOf vs) ≡ 0 → {new : List ℕ} → new ≡ lay (bytesOf (rebuilt t ws c vs) (t .variables)) vs
+          pub refuses-clause : 0 < f → outcome (refused 9 f) vs ≡ rebuilding base t ws c vs
+          refuses-clause l = sym (placed ∙ rw (blocked, bits, testAt-some _ NotModel told l))
+
+          pub accepts : f ≤ 0 → {new : List ℕ} → new ≡ lay (bytesOf (rebuilt t ws c vs) (t .variables)) vs
               → outcome (answered []) new ≡ rebuilding base t ws c vs
-          accepts e n = sym (placed ∙ rw (good, blocked, bits, ← after, e, n))
+          accepts l n = sym (placed ∙ rw (blocked, bits, nowhere _ told l, n))

@@ -15,10 +15,11 @@ use Rattle.table.specs.Table.{Table, row, bookOf}
 use Rattle.table.specs.Stack.{entryAt, entries, lay}
 use Rattle.table.specs.Values.{valuesOf, bytesOf}
 use Rattle.table.proofs.Stacks.{length-entries, entries-at}
+use Rattle.stack.specs.Inner.{Passed}
+use Rattle.stack.proofs.Entries.{entry-named}
 use Rattle.rebuild.specs.Rebuild.{rebuilt}
-use Rattle.rebuild.specs.Inner.{Valued, Sorted, mendedBytes}
+use Rattle.rebuild.specs.Inner.{Valued, mendedBytes}
 use Rattle.rebuild.proofs.Bytes.{flipped, bytes-laid}
-use Rattle.rebuild.proofs.Rows.{Coded, entry-coded}
 
 -- one entry's step, by the test of its clause
 pub mended-keeps : (t : Table) (e : Entry literal) (vs : List ℕ) → holds (valuesOf vs) (row t (e .0)) ≡ true → vs ≡ mendedBytes t e vs
@@ -31,7 +32,7 @@ unfolding mendedBytes
 mended-flips t e vs h = rw h
 
 -- a literal of the table has its byte, 0 or 1
-pub flippable : (t : Table) (vs : List ℕ) (l : ℕ) → Valued t vs → Coded t l → (2 ≤ l) × (l / 2 ≤ length vs) × (getD vs (l / 2 - 1) 0 ≤ 1)
+pub flippable : (t : Table) (vs : List ℕ) (l : ℕ) → Valued t vs → (2 ≤ l) × (l ≤ 2 * t .variables + 1) → (2 ≤ l) × (l / 2 ≤ length vs) × (getD vs (l / 2 - 1) 0 ≤ 1)
 flippable t vs l v code = (code .0, omega (arith, code, v .room), v .bits (l / 2 - 1) (omega (arith, code)))
 
 -- the walk, from the newest entry on
@@ -59,7 +60,7 @@ walk-starts t ws c vs i v h = record {
 
 -- one more
 module _ (t : Table) (ws : List ℕ) (c : ℕ) (old : List ℕ) (i j : ℕ) (vs : List ℕ) (w : Walked t ws c old i vs) (next : suc j ≡ i) (below : j < c)
-    (o : Sorted t ws c) where
+    (o : Passed t ws c) where
   step : (b : Bool) → holds (valuesOf vs) (row t (getD ws (2 * j) 0)) ≡ b
       → walk literal (bookOf t) (valuesOf old) (drop j (entries ws c)) ≡ cond b (valuesOf vs) (flip (valuesOf vs) (getD ws (2 * j + 1) 0))
   unfolding mended
@@ -70,7 +71,7 @@ module _ (t : Table) (ws : List ℕ) (c : ℕ) (old : List ℕ) (i j : ℕ) (vs 
   keeps : holds (valuesOf vs) (row t (getD ws (2 * j) 0)) ≡ true → Walked t ws c old j vs
   keeps h = record { many = w .many; behind = w .behind; valued = w .valued; values = sym (step true h) }
 
-  flips : (l : ℕ) → getD ws (2 * j + 1) 0 ≡ l → Coded t l → holds (valuesOf vs) (row t (getD ws (2 * j) 0)) ≡ false
+  flips : (l : ℕ) → getD ws (2 * j + 1) 0 ≡ l → (2 ≤ l) × (l ≤ 2 * t .variables + 1) → holds (valuesOf vs) (row t (getD ws (2 * j) 0)) ≡ false
       → Walked t ws c old j (set vs (l / 2 - 1) (1 - getD vs (l / 2 - 1) 0))
   flips l e code h =
       let v = w .valued in
@@ -99,7 +100,7 @@ module _ (t : Table) (ws : List ℕ) (c : ℕ) (old : List ℕ) (i j : ℕ) (vs 
       by-bool (holds (valuesOf vs) (row t (getD ws (2 * j) 0)))
       (λ h. rw (n ∙ sym (mended-keeps t (entryAt ws j) vs h)) (keeps h))
       (λ h. rw (n ∙ sym (mended-flips t (entryAt ws j) vs h))
-      (flips (getD ws (2 * j + 1) 0) refl (entry-coded t ws c j (w .valued .table-sound) below (o .good)) h))
+      (flips (getD ws (2 * j + 1) 0) refl (entry-named t ws c j (o .table-sound) (o .none-bad) below .code) h))
 
 -- all of them
 pub walk-ends : (t : Table) (ws : List ℕ) (c : ℕ) (old vs : List ℕ) (i : ℕ) → Walked t ws c old i vs → i ≡ 0

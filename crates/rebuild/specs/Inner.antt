@@ -10,7 +10,6 @@ use Rattle.rules.specs.Book.{Entry}
 use Rattle.table.specs.Limits.{base}
 use Rattle.table.specs.Table.{Table, row, sound}
 use Rattle.table.specs.Values.{valuesOf}
-use Rattle.stack.specs.Tests.{badEntry}
 
 -- a sound table and its values: one byte for each variable, 0 or 1
 pub record Valued (t : Table) (vs : List ℕ) : Type 0 where
@@ -21,12 +20,6 @@ pub record Valued (t : Table) (vs : List ℕ) : Type 0 where
 -- each literal of the clause has its value's byte among the first n
 abbrev pub Covered : List ℕ → ℕ → Type 0
 Covered C n = (i : ℕ) → i < length C → (2 ≤ getD C i 0) × (getD C i 0 ≤ 2 * n + 1)
-
--- the stack of c entries has room, and none of them is bad
-pub record Sorted (t : Table) (ws : List ℕ) (c : ℕ) : Type 0 where
-  pub room : 2 * t .clauses ≤ length ws
-  pub count : c ≤ t .clauses
-  pub good : badEntry t ws c ≡ 0
 
 -- the bytes after the walk's step at an entry: where its clause is false, the byte of its literal's variable is flipped
 unfoldable pub mendedBytes : Table → Entry literal → List ℕ → List ℕ

@@ -12,17 +12,15 @@ use Rattle.table.specs.Limits.{Limits}
 use Rattle.table.specs.Table.{Table, bookOf}
 use Rattle.table.specs.Stack.{entries, lay}
 use Rattle.table.specs.Values.{valuesOf, bytesOf, badValue}
-use Rattle.table.specs.Answer.{answered, test, testAt, _then_, Outcome, outcome, decided}
+use Rattle.table.specs.Answer.{answered, testAt, _then_, Outcome, outcome, decided}
 use Rattle.table.specs.declared.Refusal.{Refusal}
-use Rattle.table.specs.declared.Refusal.the-variants.{NoRoom, BadValues, NotModel}
-use Rattle.stack.specs.Tests.{tableTests, entryTests, blockingTests, liveAfter}
+use Rattle.table.specs.declared.Refusal.the-variants.{BadValues, NotModel}
+use Rattle.stack.specs.Tests.{lentTests, blockingTests, liveAfter}
 
 -- 4; 3 for the stack and for the values; 5; 6; 8; 9
 abbrev pub rebuildTests : Limits → Table → List ℕ → ℕ → List ℕ → Option Refusal
 rebuildTests lim t ws c vs =
-    tableTests lim t ws
-    then test (leb (t .variables) (length vs)) NoRoom
-    then entryTests t ws c
+    lentTests lim t ws c (leb (t .variables) (length vs))
     then blockingTests t ws c
     then testAt (badValue vs (t .variables)) BadValues
     then testAt (Rules.falsified (bookOf t) (liveAfter t ws c) (valuesOf vs)) NotModel

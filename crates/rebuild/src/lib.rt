@@ -2,20 +2,19 @@
 use table::Refusal;
 use table::Verdict;
 ghost use mathlib.Core.Path.{_≡_};
-ghost use mathlib.Core.Bool.{true};
 ghost use Prim.Native.Nat.{_/_, _-_, _≤_, _<_};
 ghost use lib.ListN.{length, getD, set};
 ghost use Rattle.rules.specs.Clause.{value, holds};
 ghost use Rattle.rules.specs.Rebuild.{fails, falsified};
 ghost use Rattle.table.specs.Limits.{base};
-ghost use Rattle.table.specs.Table.{table, bookOf, sound};
+ghost use Rattle.table.specs.Table.{table, bookOf};
 ghost use Rattle.table.specs.Stack.{entryAt, lay};
 ghost use Rattle.table.specs.Values.{valuesOf, bytesOf, badValue};
 ghost use Rattle.table.specs.Answer.{verdict, outcome};
 ghost use Rattle.index.specs.Index.{liveOf};
-ghost use Rattle.stack.specs.Inner.{Checked};
+ghost use Rattle.stack.specs.Inner.{Passed};
 ghost use Rattle.rebuild.specs.Rebuild.{rebuilt, rebuilding};
-ghost use Rattle.rebuild.specs.Inner.{Valued, Covered, Sorted, mendedBytes};
+ghost use Rattle.rebuild.specs.Inner.{Valued, Covered, mendedBytes};
 
 // The lowest of the variables 1 to n whose byte is neither 0 nor 1; 0 where there is none.
 fn bad_value(n: usize, vals: &[u8]) -> usize
@@ -119,7 +118,7 @@ fn mend_at(
     vals: &mut [u8],
 )
     requires { ⌜ Valued (table n m (now lits) (now offs)) (now vals) ⌝ }
-    requires { ⌜ Sorted (table n m (now lits) (now offs)) (now stack) count ⌝ }
+    requires { ⌜ Passed (table n m (now lits) (now offs)) (now stack) count ⌝ }
     requires { ⌜ i < count ⌝ }
     ensures { λ r. ⌜ now (vals .exit) ≡ mendedBytes (table n m (now (lits .entry)) (now (offs .entry))) (entryAt (now (stack .entry)) i) (now (vals .entry)) ⌝ }
 {
@@ -143,7 +142,7 @@ fn walk_back(
     vals: &mut [u8],
 )
     requires { ⌜ Valued (table n m (now lits) (now offs)) (now vals) ⌝ }
-    requires { ⌜ Sorted (table n m (now lits) (now offs)) (now stack) count ⌝ }
+    requires { ⌜ Passed (table n m (now lits) (now offs)) (now stack) count ⌝ }
     ensures { λ r. ⌜ now (vals .exit) ≡ lay (bytesOf (rebuilt (table n m (now (lits .entry)) (now (offs .entry))) (now (stack .entry)) count (now (vals .entry))) n) (now (vals .entry)) ⌝ }
 {
     let mut walked = 0;
@@ -153,9 +152,8 @@ fn walk_back(
     }
 }
 
-// Whether each entry of the stack, none of which is bad, has a literal that blocks its clause among those live at that time: the number of the first
-// that does not, or 0, and then the live clauses are marked.
-fn first_unblocked(
+// The rebuild, once the tests that come first passed: every entry's literal blocks, the values are good, and they satisfy the live clauses.
+fn rebuild_checked(
     n: usize,
     m: usize,
     lits: &[u16],
@@ -163,17 +161,26 @@ fn first_unblocked(
     stack: &[u32],
     count: usize,
     live: &mut [u8],
-) -> usize
-    requires { ⌜ sound base (table n m (now lits) (now offs)) ≡ true ⌝ }
-    requires { ⌜ Sorted (table n m (now lits) (now offs)) (now stack) count ⌝ }
-    requires { ⌜ m < length (now live) ⌝ }
-    ensures { λ r. ⌜ Checked (table n m (now (lits .entry)) (now (offs .entry))) (now (stack .entry)) count (now (live .exit)) r ⌝ }
+    vals: &mut [u8],
+) -> Verdict
+    requires { ⌜ Passed (table n m (now lits) (now offs)) (now stack) count ⌝ }
+    requires { ⌜ (m < length (now live)) × (n ≤ length (now vals)) ⌝ }
+    ensures { λ r. ⌜ outcome (verdict r) (now (vals .exit)) ≡ rebuilding base (table n m (now (lits .entry)) (now (offs .entry))) (now (stack .entry)) count (now (vals .entry)) ⌝ }
 {
-    let mut heads = [0u16; 4002];
-    let mut nexts = [0u16; 16000];
-    index::index_rows(n, m, lits, offs, &mut heads, &mut nexts);
-    index::mark_all(m, live);
-    stack::unblocked_entry(n, m, lits, offs, &heads, &nexts, stack, count, live)
+    let unblocked = stack::first_unblocked(n, m, lits, offs, stack, count, live);
+    if 0 < unblocked {
+        return Verdict::Refused(Refusal::NotBlocking(unblocked));
+    }
+    let variable = bad_value(n, vals);
+    if 0 < variable {
+        return Verdict::Refused(Refusal::BadValues(variable));
+    }
+    let clause = false_clause(n, m, lits, offs, live, vals);
+    if 0 < clause {
+        return Verdict::Refused(Refusal::NotModel(clause));
+    }
+    walk_back(n, m, lits, offs, stack, count, vals);
+    Verdict::Accepted
 }
 
 // Rebuilds the values: they satisfied the live clauses, and then satisfy every clause of the table.
@@ -188,36 +195,11 @@ pub fn rebuild(
 ) -> Verdict
     ensures { λ r. ⌜ outcome (verdict r) (now (vals .exit)) ≡ rebuilding base (table n m (now (lits .entry)) (now (offs .entry))) (now (stack .entry)) count (now (vals .entry)) ⌝ }
 {
-    if table::is_sound(n, m, lits, offs) {
-        if stack.len() < 2 * m {
-            return Verdict::Refused(Refusal::NoRoom);
-        }
-        if vals.len() < n {
-            return Verdict::Refused(Refusal::NoRoom);
-        }
-        if m < count {
-            return Verdict::Refused(Refusal::BadStack(0));
-        }
-        let mut live = [0u8; 4001];
-        index::mark_all(m, &mut live);
-        let bad = stack::bad_entry(n, m, lits, offs, stack, count, &mut live);
-        if 0 < bad {
-            return Verdict::Refused(Refusal::BadStack(bad));
-        }
-        let unblocked = first_unblocked(n, m, lits, offs, stack, count, &mut live);
-        if 0 < unblocked {
-            return Verdict::Refused(Refusal::NotBlocking(unblocked));
-        }
-        let variable = bad_value(n, vals);
-        if 0 < variable {
-            return Verdict::Refused(Refusal::BadValues(variable));
-        }
-        let clause = false_clause(n, m, lits, offs, &live, vals);
-        if 0 < clause {
-            return Verdict::Refused(Refusal::NotModel(clause));
-        }
-        walk_back(n, m, lits, offs, stack, count, vals);
-        return Verdict::Accepted;
+    let room = n <= vals.len();
+    let mut live = [0u8; 4001];
+    let opened = stack::open_stack(n, m, lits, offs, stack, count, room, &mut live);
+    match opened {
+        Verdict::Refused(r) => Verdict::Refused(r),
+        Verdict::Accepted => { rebuild_checked(n, m, lits, offs, stack, count, &mut live, vals) }
     }
-    Verdict::Refused(Refusal::BadTable)
 }

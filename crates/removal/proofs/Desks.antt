@@ -5,7 +5,7 @@ use mathlib.Core.List.{List, [], _∷_, _++_, append-assoc}
 use Prim.Native.Nat.{ℕ, zero, suc, _+_, _-_, _*_, _≤_, _<_}
 use native.Mathlib.Omega.{arith}
 use native.Mathlib.Numerals.{add-one}
-use lib.ListN.{length, getD, set, replicate}
+use lib.ListN.{length, set}
 use Rattle.rules.specs.Blocking.{literal}
 use Rattle.rules.specs.Book.{Entry, oneTo, after, valid}
 use Rattle.rules.specs.Elimination.{turn, turns, sweeps, eliminate}
@@ -14,17 +14,12 @@ use Rattle.rules.proofs.Sweeps.{tally, tally-le, removed, turn-valid, turns-val
 use Rattle.table.specs.Limits.{base}
 use Rattle.table.specs.Table.{Table, bookOf, sound}
 use Rattle.table.proofs.Soundness.{sound-of}
-use Rattle.table.proofs.Stamps.{stamped-zeros}
 use Rattle.table.specs.Stack.{words, lay, push}
 use Rattle.index.specs.Index.{liveOf, Indexed, entryOf}
 use Rattle.index.proofs.Marks.{live-within}
 use Rattle.index.proofs.Reasons.{entry-of}
 use Rattle.removal.specs.Inner.{Desk, Made}
 use Rattle.removal.proofs.Pushes.{length-pushAll, pushAll-lay, made-none, made-one, made-more}
-
--- a fresh buffer holds zeros
-pub zeros : (n x : ℕ) → getD (replicate {A = ℕ} n 0) x 0 ≡ 0
-zeros n x = omega (arith, stamped-zeros n x)
 
 module _ (t : Table) where
   pub desk-few : {heads nexts marks ws : List ℕ} {c : ℕ} → Desk t heads nexts marks ws c → t .clauses ≤ 4000

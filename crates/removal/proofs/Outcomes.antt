@@ -2,8 +2,8 @@
 use mathlib.Core.Path.{_≡_, sym, _∙_, ap, ap₂}
 use mathlib.Core.Bool.{Bool, true, false, not}
 use mathlib.Core.List.{List, [], _∷_}
-use Prim.Native.Nat.{ℕ, zero, suc, _+_, _*_, _≤_, _<_}
-use native.Mathlib.Omega.{arith}
+use mathlib.Core.Option.{some}
+use Prim.Native.Nat.{ℕ, suc, _+_, _*_, _≤_, _<_}
 use borrow.Author.Tests.{le-leb, lt-leb, not-true, not-false}
 use lib.ListN.{length}
 use Rattle.rules.specs.Blocking.{literal}
@@ -13,17 +13,19 @@ use Rattle.table.specs.Limits.{base}
 use Rattle.table.specs.Table.{Table, bookOf, sound}
 use Rattle.table.specs.Stack.{words, push}
 use Rattle.table.specs.Answer.{answered, outcome}
-use Rattle.table.specs.declared.Refusal.the-variants.{NoRoom, BadTable, BadStack, NotBlocking, BadName}
+use Rattle.table.specs.declared.Refusal.{Refusal}
+use Rattle.table.specs.declared.Refusal.the-variants.{NoRoom, BadTable, NotBlocking, BadName}
 use Rattle.index.specs.Index.{liveOf}
-use Rattle.stack.specs.Tests.{entryNames, liveAfter}
-use Rattle.stack.specs.Inner.{Read}
+use Rattle.stack.specs.Tests.{entryNames, lentTests, liveAfter}
+use Rattle.stack.specs.Inner.{Open}
+use Rattle.stack.proofs.Refusals.{passed-lent}
 use Rattle.removal.specs.declared.Counted.the-variants.{Count, Refused}
 use Rattle.removal.specs.declared.Next.{Next}
 use Rattle.removal.specs.declared.Next.the-variants.{Refused as NextRefused}
 use Rattle.removal.specs.Removal.{counted, nextReply, elimination, removal, question}
 use Rattle.removal.specs.Inner.{Made}
 use Rattle.removal.proofs.Desks.{eliminated}
-use Rattle.removal.proofs.Rooms.{Passed, Pushable}
+use Rattle.removal.proofs.Rooms.{Pushable}
 
 module _ (t : Table) (ws : List ℕ) {s : Bool} (e : s ≡ sound base t) where
   -- elimination: the table is unsound, the stack is too small, or the removals were made
@@ -43,75 +45,41 @@ module _ (t : Table) (ws : List ℕ) {s : Bool} (e : s ≡ sound base t) where
       let q = eliminated t a n made in
       rw (sym e ∙ h, le-leb _ _ n) (ap₂ (λ (d : ℕ) (us : List ℕ). outcome (answered (d ∷ [])) us) (q .0) (q .1))
 
-  module _ (c : ℕ) where
-    -- removal of clause k by the literal l: the tests 4, 3 and 5
-    module _ (k l : ℕ) where
-      pub removal-unsound : s ≡ false → outcome (counted (Refused BadTable)) ws ≡ removal base t ws c k l
-      unfolding removal
-      removal-unsound h = rw (sym e ∙ h)
+-- removal and the question, where one of the tests that come first refuses
+module _ (t : Table) (ws : List ℕ) (c : ℕ) (r : Refusal) (h : lentTests base t ws c true ≡ some r) where
+  pub removal-refused : (k l : ℕ) → outcome (counted (Refused r)) ws ≡ removal base t ws c k l
+  unfolding removal
+  removal-refused k l = rw h
 
-      pub removal-narrow : s ≡ true → length ws < 2 * t .clauses → outcome (counted (Refused NoRoom)) ws ≡ removal base t ws c k l
-      unfolding removal
-      removal-narrow h n = rw (sym e ∙ h, lt-leb _ _ n)
+  pub question-refused : nextReply (NextRefused r) ≡ question base t ws c
+  unfolding question
+  question-refused = rw h
 
-      pub removal-many : s ≡ true → 2 * t .clauses ≤ length ws → t .clauses < c → outcome (counted (Refused (BadStack 0))) ws ≡ removal base t ws c k l
-      unfolding removal
-      removal-many h n m = rw (sym e ∙ h, le-leb _ _ n, lt-leb _ _ m)
-
-      pub removal-bad : {marks : List ℕ} (b : ℕ) → s ≡ true → 2 * t .clauses ≤ length ws → c ≤ t .clauses → Read t ws c marks b → 0 < b
-          → outcome (counted (Refused (BadStack b))) ws ≡ removal base t ws c k l
-      unfolding removal
-      removal-bad zero h n m r z = absurd (omega arith)
-      removal-bad (suc b) h n m r z = rw (sym e ∙ h, le-leb _ _ n, le-leb _ _ m, ← r .bad)
-
-    -- the question: the same tests
-    pub question-unsound : s ≡ false → nextReply (NextRefused BadTable) ≡ question base t ws c
-    unfolding question
-    question-unsound h = rw (sym e ∙ h)
-
-    pub question-narrow : s ≡ true → length ws < 2 * t .clauses → nextReply (NextRefused NoRoom) ≡ question base t ws c
-    unfolding question
-    question-narrow h n = rw (sym e ∙ h, lt-leb _ _ n)
-
-    pub question-many : s ≡ true → 2 * t .clauses ≤ length ws → t .clauses < c → nextReply (NextRefused (BadStack 0)) ≡ question base t ws c
-    unfolding question
-    question-many h n m = rw (sym e ∙ h, le-leb _ _ n, lt-leb _ _ m)
-
-    pub question-bad : {marks : List ℕ} (b : ℕ) → s ≡ true → 2 * t .clauses ≤ length ws → c ≤ t .clauses → Read t ws c marks b → 0 < b
-        → nextReply (NextRefused (BadStack b)) ≡ question base t ws c
-    unfolding question
-    question-bad zero h n m r z = absurd (omega arith)
-    question-bad (suc b) h n m r z = rw (sym e ∙ h, le-leb _ _ n, le-leb _ _ m, ← r .bad)
-
--- once the stack passed its tests: the removal's entry is bad, or the question is answered
-module _ {t : Table} {ws : List ℕ} {c : ℕ} {marks : List ℕ} (p : Passed t ws c marks) where
+-- once the stack is open: the removal's entry is bad, or the question is answered
+module _ {t : Table} {ws : List ℕ} {c : ℕ} {marks : List ℕ} (o : Open t ws c marks) where
   pub removal-unnamed : {r : Bool} (k l : ℕ) → r ≡ entryNames t (liveOf marks) (k, l) → r ≡ false
       → outcome (counted (Refused BadName)) ws ≡ removal base t ws c k l
   unfolding removal
   removal-unnamed k l e h =
-      let n : entryNames t (liveAfter t ws c) (k, l) ≡ false = rw (p .live) at (sym e ∙ h) in
-      rw (p .table-sound, le-leb _ _ (p .room), le-leb _ _ (p .count), p .none-bad, n)
+      let n : entryNames t (liveAfter t ws c) (k, l) ≡ false = rw (o .live) at (sym e ∙ h) in
+      rw (passed-lent t ws c (o .passed), n)
 
   pub question-answered : (r : Next) → nextReply r ≡ answered (words (nextBlocked literal (bookOf t) (liveOf marks) (t .clauses)))
       → nextReply r ≡ question base t ws c
   unfolding question
   question-answered r e =
-      rw (p .table-sound, le-leb _ _ (p .room), le-leb _ _ (p .count), p .none-bad)
-      (e ∙ ap (λ (L : ℕ → Bool). answered (words (nextBlocked literal (bookOf t) L (t .clauses)))) (p .live))
+      rw (passed-lent t ws c (o .passed)) (e ∙ ap (λ (L : ℕ → Bool). answered (words (nextBlocked literal (bookOf t) L (t .clauses)))) (o .live))
 
--- and once the entry is named: it does not block, or goes on the stack
-module _ {t : Table} {ws : List ℕ} {c : ℕ} {marks : List ℕ} {k l : ℕ} {r : Bool} (q : Pushable t ws c marks k l)
-    (e : r ≡ not (blocks literal (bookOf t) (liveOf marks) k l)) where
-  pub removal-unblocked : r ≡ true → outcome (counted (Refused (NotBlocking k))) ws ≡ removal base t ws c k l
-  unfolding removal
-  removal-unblocked h =
-      let p = q .tests in
-      let b : blocks literal (bookOf t) (liveAfter t ws c) k l ≡ false = not-true _ (rw (p .live) at (sym e ∙ h)) in
-      rw (p .table-sound, le-leb _ _ (p .room), le-leb _ _ (p .count), p .none-bad, q .names, b)
+  -- and once the entry is named: it does not block, or goes on the stack
+  module _ {k l : ℕ} {r : Bool} (q : Pushable t ws c k l) (e : r ≡ not (blocks literal (bookOf t) (liveOf marks) k l)) where
+    pub removal-unblocked : r ≡ true → outcome (counted (Refused (NotBlocking k))) ws ≡ removal base t ws c k l
+    unfolding removal
+    removal-unblocked h =
+        let b : blocks literal (bookOf t) (liveAfter t ws c) k l ≡ false = not-true _ (rw (o .live) at (sym e ∙ h)) in
+        rw (passed-lent t ws c (o .passed), q .names, b)
 
-  pub removal-made : r ≡ false → outcome (counted (Count (c + 1))) (push ws c k l) ≡ removal base t ws c k l
-  unfolding removal
-  removal-made h =
-      let p = q .tests in
-      let b : blocks literal (bookOf t) (liveAfter t ws c) k l ≡ true = not-false _ (rw (p .live) at (sym e ∙ h)) in
-      rw (p .table-sound, le-leb _ _ (p .room), le-leb _ _ (p .count), p .none-bad, q .names, b)
+    pub removal-made : r ≡ false → outcome (counted (Count (c + 1))) (push ws c k l) ≡ removal base t ws c k l
+    unfolding removal
+    removal-made h =
+        let b : blocks literal (bookOf t) (liveAfter t ws c) k l ≡ true = not-false _ (rw (o .live) at (sym e ∙ h)) in
+        rw (passed-lent t ws c (o .passed), q .names, b)

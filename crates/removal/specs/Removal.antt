@@ -1,5 +1,6 @@
 -- Elimination, removal and the question, as calls on a lent table and stack: the answer and every cell of the stack, refusals included (document 01,
 -- 'Refusal numbers' and 'Order'). Assumes nothing.
+use mathlib.Core.Bool.{true}
 use mathlib.Core.List.{List, [], _∷_}
 use mathlib.Core.Option.{Option}
 use Prim.Native.Nat.{ℕ, _+_}
@@ -13,7 +14,7 @@ use Rattle.table.specs.Stack.{words, lay, push}
 use Rattle.table.specs.Answer.{Reply, answered, paper, test, _then_, unless, Outcome, outcome, decided}
 use Rattle.table.specs.declared.Refusal.{Refusal}
 use Rattle.table.specs.declared.Refusal.the-variants.{NotBlocking, BadName}
-use Rattle.stack.specs.Tests.{tableTests, entryTests, entryNames, liveAfter}
+use Rattle.stack.specs.Tests.{tableTests, entryNames, lentTests, liveAfter}
 use Rattle.removal.specs.declared.Counted.{Counted}
 use Rattle.removal.specs.declared.Counted.the-variants.{Count, Refused}
 use Rattle.removal.specs.declared.Next.{Next}
@@ -42,8 +43,7 @@ elimination lim t ws =
 -- remove: 4, 3, 5, then 7 and 6 of the clause k and the literal l that are named; old entries are not tested for 6
 abbrev pub removalTests : Limits → Table → List ℕ → ℕ → ℕ → ℕ → Option Refusal
 removalTests lim t ws c k l =
-    tableTests lim t ws
-    then entryTests t ws c
+    lentTests lim t ws c true
     then test (entryNames t (liveAfter t ws c) (k, l)) BadName
     then test (blocks literal (bookOf t) (liveAfter t ws c) k l) (NotBlocking k)
 
@@ -54,5 +54,5 @@ removal lim t ws c k l = decided (removalTests lim t ws c k l) ws (outcome (answ
 -- the question: 4, 3, 5, then the lowest live blocked clause with its first blocking literal, or none
 unfoldable pub question : Limits → Table → List ℕ → ℕ → Reply
 question lim t ws c =
-    unless (tableTests lim t ws then entryTests t ws c)
+    unless (lentTests lim t ws c true)
     (answered (words (Rules.nextBlocked literal (bookOf t) (liveAfter t ws c) (t .clauses))))

@@ -1,5 +1,6 @@
 // Blocked clause elimination: the removal of every clause that can go, of one named clause, and the question which clause can go next.
 use table::Refusal;
+use table::Verdict;
 ghost use mathlib.Core.Path.{_≡_};
 ghost use mathlib.Core.Bool.{true, not};
 ghost use Prim.Native.Nat.{ℕ, suc, _≤_, _<_};
@@ -13,6 +14,7 @@ ghost use Rattle.table.specs.Table.{table, row, bookOf, sound};
 ghost use Rattle.table.specs.Stack.{words};
 ghost use Rattle.table.specs.Answer.{answered, outcome};
 ghost use Rattle.index.specs.Index.{liveOf, Ready};
+ghost use Rattle.stack.specs.Inner.{Open};
 ghost use Rattle.removal.specs.Removal.{counted, nextReply, elimination, removal, question};
 ghost use Rattle.removal.specs.Inner.{Desk, Made};
 
@@ -136,6 +138,33 @@ fn prevented(n: usize, m: usize, lits: &[u16], offs: &[u32], live: &[u8], k: usi
     0 < index::test_literal(n, m, lits, offs, &heads, &nexts, live, k, l)
 }
 
+// The removal of the clause that is named, from an open stack.
+fn remove_named(
+    n: usize,
+    m: usize,
+    lits: &[u16],
+    offs: &[u32],
+    live: &[u8],
+    stack: &mut [u32],
+    count: usize,
+    clause: u32,
+    literal: u32,
+) -> Counted
+    requires { ⌜ Open (table n m (now lits) (now offs)) (now stack) count (now live) ⌝ }
+    ensures { λ r. ⌜ outcome (counted r) (now (stack .exit)) ≡ removal base (table n m (now (lits .entry)) (now (offs .entry))) (now (stack .entry)) count clause literal ⌝ }
+{
+    if stack::entry_names(n, m, lits, offs, live, clause, literal) {
+        let k = clause as usize;
+        if prevented(n, m, lits, offs, live, k, literal as u16) {
+            return Counted::Refused(Refusal::NotBlocking(k));
+        }
+        stack[2 * count] = clause;
+        stack[2 * count + 1] = literal;
+        return Counted::Count(count + 1);
+    }
+    Counted::Refused(Refusal::BadName)
+}
+
 // The removal of one clause by a literal that blocks it: one entry more on the stack.
 pub fn remove(
     n: usize,
@@ -149,31 +178,14 @@ pub fn remove(
 ) -> Counted
     ensures { λ r. ⌜ outcome (counted r) (now (stack .exit)) ≡ removal base (table n m (now (lits .entry)) (now (offs .entry))) (now (stack .entry)) count clause literal ⌝ }
 {
-    if table::is_sound(n, m, lits, offs) {
-        if stack.len() < 2 * m {
-            return Counted::Refused(Refusal::NoRoom);
+    let mut live = [0u8; 4001];
+    let opened = stack::open_stack(n, m, lits, offs, stack, count, true, &mut live);
+    match opened {
+        Verdict::Refused(r) => Counted::Refused(r),
+        Verdict::Accepted => {
+            remove_named(n, m, lits, offs, &live, stack, count, clause, literal)
         }
-        if m < count {
-            return Counted::Refused(Refusal::BadStack(0));
-        }
-        let mut live = [0u8; 4001];
-        index::mark_all(m, &mut live);
-        let bad = stack::bad_entry(n, m, lits, offs, stack, count, &mut live);
-        if 0 < bad {
-            return Counted::Refused(Refusal::BadStack(bad));
-        }
-        if stack::entry_names(n, m, lits, offs, &live, clause, literal) {
-            let k = clause as usize;
-            if prevented(n, m, lits, offs, &live, k, literal as u16) {
-                return Counted::Refused(Refusal::NotBlocking(k));
-            }
-            stack[2 * count] = clause;
-            stack[2 * count + 1] = literal;
-            return Counted::Count(count + 1);
-        }
-        return Counted::Refused(Refusal::BadName);
     }
-    Counted::Refused(Refusal::BadTable)
 }
 
 // The lowest clause that is live and blocked, with its first blocking literal.
@@ -211,23 +223,15 @@ pub fn next_blocked(
 ) -> Next
     ensures { λ r. ⌜ nextReply r ≡ question base (table n m (now (lits .entry)) (now (offs .entry))) (now (stack .entry)) count ⌝ }
 {
-    if table::is_sound(n, m, lits, offs) {
-        if stack.len() < 2 * m {
-            return Next::Refused(Refusal::NoRoom);
+    let mut live = [0u8; 4001];
+    let opened = stack::open_stack(n, m, lits, offs, stack, count, true, &mut live);
+    match opened {
+        Verdict::Refused(r) => Next::Refused(r),
+        Verdict::Accepted => {
+            let mut heads = [0u16; 4002];
+            let mut nexts = [0u16; 16000];
+            index::index_rows(n, m, lits, offs, &mut heads, &mut nexts);
+            lowest_blocked(n, m, lits, offs, &heads, &nexts, &live)
         }
-        if m < count {
-            return Next::Refused(Refusal::BadStack(0));
-        }
-        let mut live = [0u8; 4001];
-        index::mark_all(m, &mut live);
-        let bad = stack::bad_entry(n, m, lits, offs, stack, count, &mut live);
-        if 0 < bad {
-            return Next::Refused(Refusal::BadStack(bad));
-        }
-        let mut heads = [0u16; 4002];
-        let mut nexts = [0u16; 16000];
-        index::index_rows(n, m, lits, offs, &mut heads, &mut nexts);
-        return lowest_blocked(n, m, lits, offs, &heads, &nexts, &live);
     }
-    Next::Refused(Refusal::BadTable)
 }

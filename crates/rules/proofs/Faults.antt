@@ -1,6 +1,6 @@
 -- The first entry of a stack that fails a test, from the oldest on. Assumes nothing.
 use mathlib.Core.Path.{_≡_, refl}
-use mathlib.Core.Bool.{Bool, true, false, _&&_, cond}
+use mathlib.Core.Bool.{true, false, _&&_}
 use mathlib.Core.List.{List, [], _∷_}
 use Prim.Native.Nat.{ℕ, zero, suc, _<_}
 use native.Mathlib.Omega.{arith}
@@ -58,6 +58,22 @@ module _ (N : Notion) where
   fault-stop t L (e ∷ s) (suc i) d h f y =
       let q = fault-head t L e (take i s) f in
       rw (q .0, fault-stop t (less L (e .0)) s i d (omega arith) (q .1) y)
+
+  -- where no entry fails, each passes among the clauses live at that time
+  pub fault-at : (t : Test N) (L : Live) (s : List (Entry N)) (i : ℕ) (d : Entry N) → i < length s → fault N t L s ≡ 0
+      → t (after N L (take i s)) (getD s i d) ≡ true
+  unfolding after
+  fault-at t L [] i d h f = absurd (omega arith)
+  fault-at t L (e ∷ s) zero d h f = fault-head t L e s f .0
+  fault-at t L (e ∷ s) (suc i) d h f = fault-at t (less L (e .0)) s i d (omega arith) (fault-head t L e s f .1)
+
+  -- one more entry takes its clause away
+  pub after-next : (L : Live) (s : List (Entry N)) (i : ℕ) (d : Entry N) → i < length s
+      → after N L (take (suc i) s) ≡ less (after N L (take i s)) (getD s i d .0)
+  unfolding after
+  after-next L [] i d h = absurd (omega arith)
+  after-next L (e ∷ s) zero d h = refl
+  after-next L (e ∷ s) (suc i) d h = after-next (less L (e .0)) s i d (omega arith)
 
   module _ (b : Book) where
     -- a stack is valid exactly where no entry fails

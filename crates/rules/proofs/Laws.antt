@@ -1,12 +1,10 @@
 -- The laws of elimination and rebuild, over any notion of blocking. Assumes nothing.
-use mathlib.Core.Path.{_≡_, refl, ap, fun-ext}
-use mathlib.Core.Bool.{Bool, true, false, not, _&&_, cond}
+use mathlib.Core.Path.{_≡_, ap, fun-ext}
+use mathlib.Core.Bool.{true, false, not}
 use mathlib.Core.List.{List, [], _∷_}
 use mathlib.Core.Logic.{_↔_, _≢_}
 use Prim.Native.Nat.{ℕ, _≤_}
-use lib.Dec.{eqb, leb}
 use borrow.Author.Tests.{eqb-true, eq-eqb, ne-eqb, leb-true}
-use Rattle.rules.specs.Walk.{least}
 use Rattle.rules.specs.Clause.{Clause, Values, holds}
 use Rattle.rules.specs.Blocking.{Notion}
 use Rattle.rules.specs.Book.{Book, Live, oneTo, all, less, Entry, after, bars, obstacle, blocks, valid}

@@ -1,16 +1,16 @@
 -- Blocking by one literal is sound: the flip makes the removed clause true and keeps every other true. Assumes nothing.
 use mathlib.Core.Path.{_≡_, refl, sym, _∙_, ap}
-use mathlib.Core.Bool.{Bool, true, false, not, _&&_, cond}
-use mathlib.Core.List.{List, _++_}
+use mathlib.Core.Bool.{true, false, not}
+use mathlib.Core.List.{_++_}
 use mathlib.Core.Logic.{_≢_, ⊎-elim}
-use Prim.Native.Nat.{ℕ, _+_, _-_, _*_, _/_, _%_}
+use Prim.Native.Nat.{ℕ, _+_, _-_, _*_, _/_, _%_, _≤_}
 use native.Mathlib.Omega.{arith}
 use lib.Dec.{eqb}
 use borrow.Author.Tests.{eq-eqb, ne-eqb}
 use Rattle.rules.specs.Walk.{any}
 use Rattle.rules.specs.Clause.{Clause, Values, neg, mem, without, tautology, value, holds, flip}
 use Rattle.rules.specs.Blocking.{resists, literal}
-use Rattle.rules.proofs.Logic.{by-bool, by-eq, differ, and-true, not-not}
+use Rattle.rules.proofs.Logic.{by-bool, by-eq, differ, not-not}
 use Rattle.rules.proofs.Members.{any-mem, mem-any, any-false, mem-append, mem-without, mem-in}
 use Rattle.rules.proofs.Laws.{Sound}
 
@@ -21,6 +21,11 @@ neg-neg l = omega arith
 pub neg-half : (l : ℕ) → neg l / 2 ≡ l / 2
 unfolding neg
 neg-half l = omega arith
+
+-- the negation of a variable's code or of its negation's is such a code
+pub neg-coded : (n l : ℕ) → l ≤ 2 * n + 1 → neg l ≤ 2 * n + 1
+unfolding neg
+neg-coded n l h = omega arith
 
 neg-odd : (l : ℕ) → neg l % 2 ≡ 1 - l % 2
 unfolding neg

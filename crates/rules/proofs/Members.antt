@@ -1,15 +1,19 @@
 -- Clauses as sets: what is in a clause, in a join of two, and in a clause less a literal. Assumes nothing.
-use mathlib.Core.Path.{_≡_, refl, sym, _∙_}
+use mathlib.Core.Path.{_≡_, refl, sym, _∙_, ap}
 use mathlib.Core.Bool.{Bool, true, false, _||_}
-use mathlib.Core.List.{List, [], _∷_, _++_}
+use mathlib.Core.List.{[], _∷_, _++_}
 use mathlib.Core.Logic.{_≢_, _⊎_, inl, inr, ⊎-elim}
-use Prim.Native.Nat.{ℕ}
+use Prim.Native.Nat.{ℕ, zero, suc, _<_}
+use native.Mathlib.Omega.{arith}
 use lib.Dec.{eqb}
+use lib.ListN.{length, getD, take}
+use lib.Seq.{take-suc}
 use borrow.Author.Tests.{eqb-true, eqb-false, eq-eqb, ne-eqb}
 use Rattle.rules.specs.Walk.{any}
 use Rattle.rules.specs.Clause.{Clause, mem, without}
 use Rattle.rules.specs.Proposition.{_∈_, here, there}
-use Rattle.rules.proofs.Logic.{by-bool, by-eq, differ, not-false}
+use Rattle.rules.proofs.Logic.{by-bool, by-eq, differ, not-false, or-no}
+use Rattle.rules.proofs.Walks.{any-append}
 
 pub any-mem : (p : ℕ → Bool) (C : Clause) (x : ℕ) → mem x C ≡ true → p x ≡ true → any p C ≡ true
 unfolding any mem
@@ -84,3 +88,18 @@ mem-in x (y ∷ C) h = by-eq x y (λ e. rw e (_∈_.here)) (λ n. let f = ne-eqb
 pub in-mem : (x : ℕ) (C : Clause) → x ∈ C → mem x C ≡ true
 in-mem x (y ∷ C) (here) = mem-here y C
 in-mem x (y ∷ C) (there m) = mem-skip x y C (in-mem x C m)
+
+-- the literal at a place of a clause is in the clause, also where the clause goes by another name
+pub mem-at : (C : Clause) (i : ℕ) → i < length C → mem (getD C i 0) C ≡ true
+mem-at [] i h = absurd (omega arith)
+mem-at (y ∷ C) zero h = mem-here y C
+mem-at (y ∷ C) (suc i) h = mem-skip (getD C i 0) y C (mem-at C i (omega arith))
+
+pub own-at : (C D : Clause) → D ≡ C → (i : ℕ) → i < length D → mem (getD D i 0) C ≡ true
+own-at C D e i h = sym (ap (mem (getD D i 0)) e) ∙ mem-at D i h
+
+-- one literal more of a clause
+pub mem-next : (x : ℕ) (C : Clause) (i : ℕ) → i < length C → mem x (take (suc i) C) ≡ (mem x (take i C) || eqb x (getD C i 0))
+unfolding mem any
+mem-next x C i h =
+    rw (take-suc C i 0) (any-append (eqb x) (take i C) (getD C i 0 ∷ []) ∙ ap (λ (b : Bool). any (eqb x) (take i C) || b) (or-no _))

@@ -1,11 +1,10 @@
 -- Elimination by sweeps: a valid sequence of removals that ends where nothing is blocked. Assumes nothing.
 use mathlib.Core.Path.{_≡_, refl, sym, _∙_, ap, subst}
-use mathlib.Core.Bool.{Bool, true, false, not, _&&_, cond}
+use mathlib.Core.Bool.{Bool, true, false, cond}
 use mathlib.Core.List.{List, [], _∷_, _++_, append-assoc, append-nil}
 use mathlib.Core.Logic.{_≢_}
 use Prim.Native.Nat.{ℕ, zero, suc, _+_, _≤_, _<_}
 use native.Mathlib.Omega.{arith}
-use lib.Dec.{eqb}
 use lib.ListN.{length}
 use borrow.Author.Tests.{eq-eqb, ne-eqb}
 use Rattle.rules.specs.Blocking.{Notion}
@@ -13,7 +12,7 @@ use Rattle.rules.specs.Book.{Book, Live, all, less, Entry, after, blocks
 use Rattle.rules.specs.Elimination.{orList, joined, firstReason, turn, turns, sweeps, eliminate, remainder, nextBlocked}
 use Rattle.rules.specs.Proposition.{_∈_, here, there}
 use Rattle.rules.proofs.Logic.{by-bool, by-eq, by-list, differ, and-true, not-false, append-empty}
-use Rattle.rules.proofs.Laws.{Sound, Within, all-within, Stuck, after-in, less-in, blocks-fits, blocks-free, blocks-intro, survives, confluent, _⊆_}
+use Rattle.rules.proofs.Laws.{Sound, Within, all-within, Stuck, after-in, less-in, blocks-fits, blocks-free, blocks-intro, confluent, _⊆_}
 
 -- how many of the clauses 1 to n are live
 unfoldable pub tally : Live → ℕ → ℕ

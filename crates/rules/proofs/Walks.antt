@@ -1,15 +1,14 @@
 -- What a loop knows of the walks: of a list's elements from i on or before i, of the numbers from 1 to i, of a list made by index. Assumes nothing.
 use mathlib.Core.Path.{_≡_, refl, sym, _∙_, ap, fun-ext}
-use mathlib.Core.Bool.{Bool, true, false, not, _&&_, _||_, cond}
+use mathlib.Core.Bool.{Bool, true, false, _||_, cond}
 use mathlib.Core.List.{List, [], _∷_, _++_}
-use mathlib.Core.Logic.{_≢_}
 use Prim.Native.Nat.{ℕ, zero, suc, _+_, _≤_, _<_}
 use native.Mathlib.Omega.{arith}
 use native.Mathlib.Numerals.{add-one}
-use lib.ListN.{length, getD, take, drop, length-append, List·getD-append, drop-of-length-le}
+use lib.ListN.{length, getD, drop, length-append, List·getD-append, drop-of-length-le}
 use lib.Seq.{drop-cons, getD-at}
-use Rattle.rules.specs.Walk.{any, every, everyTo, orElse, least, upto}
-use Rattle.rules.proofs.Logic.{by-bool, by-eq, differ, and-true, and-no, or-assoc, not-false}
+use Rattle.rules.specs.Walk.{any, everyTo, orElse, least, upto}
+use Rattle.rules.proofs.Logic.{by-eq, and-true, and-no, or-assoc}
 
 -- the elements of a list: what is asked of those from i on
 pub any-here : (p : ℕ → Bool) (C : List ℕ) (i : ℕ) → i < length C → p (getD C i 0) ≡ true → any p (drop i C) ≡ true

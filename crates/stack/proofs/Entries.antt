@@ -1,8 +1,8 @@
 -- A lent stack read entry by entry, from the oldest on: what is known after i entries, none of which failed the test. Assumes nothing.
 use mathlib.Core.Path.{_≡_, refl, sym, _∙_}
 use mathlib.Core.Bool.{true, false}
-use mathlib.Core.List.{List, [], _∷_}
-use Prim.Native.Nat.{ℕ, zero, suc, _+_, _*_, _≤_, _<_}
+use mathlib.Core.List.{List}
+use Prim.Native.Nat.{ℕ, _+_, _*_, _≤_, _<_}
 use native.Mathlib.Numerals.{add-one}
 use native.Mathlib.Omega.{arith}
 use mir.Syntax.{w16}
@@ -11,10 +11,12 @@ use lib.Dec.{eqb}
 use lib.ListN.{length, getD, take, set, length-set, List·getD-eq-default}
 use lib.Seq.{take-all}
 use Rattle.rules.specs.Clause.{Clause, mem}
-use Rattle.rules.specs.Blocking.{Notion, literal}
-use Rattle.rules.specs.Book.{Live, oneTo, less, Entry, after, obstacle, blocks, Test, fault}
+use Rattle.rules.specs.Blocking.{literal}
+use Rattle.rules.specs.Book.{Live, oneTo, after, obstacle, blocks, Test, fault}
 use Rattle.rules.proofs.Logic.{and-true}
-use Rattle.rules.proofs.Faults.{fault-head, fault-next, fault-stop}
+use Rattle.rules.proofs.Laws.{all-within}
+use Rattle.rules.proofs.Sweeps.{within-after}
+use Rattle.rules.proofs.Faults.{fault-next, fault-stop, fault-at, after-next}
 use Rattle.table.specs.Limits.{base}
 use Rattle.table.specs.Table.{Table, row, bookOf, sound}
 use Rattle.table.specs.Stack.{entryAt, entries}
@@ -24,22 +26,6 @@ use Rattle.index.specs.Index.{liveOf}
 use Rattle.index.proofs.Marks.{live-here, live-gone, live-less, live-within}
 use Rattle.stack.specs.Tests.{entryNames, badEntry, entryBlocks, unblockedEntry, liveAfter}
 use Rattle.stack.specs.Inner.{Lent, Read, Checked}
-
-module _ (N : Notion) where
-  -- one more entry takes its clause away
-  after-next : (L : Live) (s : List (Entry N)) (i : ℕ) (d : Entry N) → i < length s → after N L (take (suc i) s) ≡ less (after N L (take i s)) (getD s i d .0)
-  unfolding after
-  after-next L [] i d h = absurd (omega arith)
-  after-next L (e ∷ s) zero d h = refl
-  after-next L (e ∷ s) (suc i) d h = after-next (less L (e .0)) s i d (omega arith)
-
-  -- where no entry fails, each passes among the clauses live at that time
-  fault-at : (u : Test N) (L : Live) (s : List (Entry N)) (i : ℕ) (d : Entry N) → i < length s → fault N u L s ≡ 0
-      → u (after N L (take i s)) (getD s i d) ≡ true
-  unfolding after
-  fault-at u L [] i d h f = absurd (omega arith)
-  fault-at u L (e ∷ s) zero d h f = fault-head N u L e s f .0
-  fault-at u L (e ∷ s) (suc i) d h f = fault-at u (less L (e .0)) s i d (omega arith) (fault-head N u L e s f .1)
 
 -- what is known after i of c entries: none of them failed the test u, and what is live is marked
 pub record Reading (m : ℕ) (u : Test literal) (ws : List ℕ) (c : ℕ) (marks : List ℕ) (i : ℕ) : Type 0 where
@@ -91,35 +77,37 @@ module _ (t : Table) (marks : List ℕ) (k l : ℕ) where
   unfolding entryNames
   names-live e C same = rw (live-here marks k e, same)
 
--- an entry that names a clause from 1 to m and a literal of it, which then is a code
+-- an entry that names a live clause and a literal of it
+pub names-both : (t : Table) (L : Live) (k l : ℕ) → entryNames t L (k, l) ≡ true → (L k ≡ true) × (mem l (row t k) ≡ true)
+unfolding entryNames
+names-both t L k l h = simp and-true at h
+
+-- an entry that names a clause from 1 to m and a literal of it, which then is the code of a variable or of its negation
 pub record Named (t : Table) (k l : ℕ) : Type 0 where
   pub low : 1 ≤ k
   pub high : k ≤ t .clauses
   pub holds : mem l (row t k) ≡ true
+  pub code : (2 ≤ l) × (l ≤ 2 * t .variables + 1)
   pub small : l ≤ 4001
 
 pub named : (t : Table) → sound base t ≡ true → (L : Live) → ((k : ℕ) → L k ≡ true → (1 ≤ k) × (k ≤ t .clauses)) → (k l : ℕ)
     → entryNames t L (k, l) ≡ true → Named t k l
-unfolding entryNames
 named t s L w k l h =
-    let q = simp and-true at h in
+    let q = names-both t L k l h in
     let b = w k (q .0) in
     let g = sound-of t s in
-    record {
-      low = b .0;
-      high = b .1;
-      holds = q .1;
-      small = omega (arith, g .variables, literal-coded t g k l (b .0) (b .1) (q .1) .1);
-    }
+    let code = literal-coded t g k l (b .0) (b .1) (q .1) in
+    record { low = b .0; high = b .1; holds = q .1; code = code; small = omega (arith, g .variables, code .1) }
 
 -- where no entry is bad, each names a clause and a literal of it
-pub reading-named : (t : Table) (u : Test literal) (ws : List ℕ) (c : ℕ) (marks : List ℕ) (i : ℕ) → Reading (t .clauses) u ws c marks i
-    → sound base t ≡ true → badEntry t ws c ≡ 0 → i < c → Named t (getD ws (2 * i) 0) (getD ws (2 * i + 1) 0)
+pub entry-named : (t : Table) (ws : List ℕ) (c i : ℕ) → sound base t ≡ true → badEntry t ws c ≡ 0 → i < c
+    → Named t (getD ws (2 * i) 0) (getD ws (2 * i + 1) 0)
 unfolding badEntry
-reading-named t u ws c marks i known s f h =
-    named t s (liveOf marks) (reading-within (t .clauses) u ws c marks i known) _ _
-    (rw (known .live, ← entries-at ws c i (0, 0) h)
-    (fault-at literal (entryNames t) (oneTo (t .clauses)) (entries ws c) i (0, 0) (rw length-entries h) f))
+entry-named t ws c i s z h =
+    let y = fault-at literal (entryNames t) (oneTo (t .clauses)) (entries ws c) i (0, 0) (rw length-entries h) z in
+    named t s (after literal (oneTo (t .clauses)) (take i (entries ws c)))
+    (within-after literal (bookOf t) (oneTo (t .clauses)) (take i (entries ws c)) (all-within (bookOf t))) _ _
+    (rw (entries-at ws c i (0, 0) h) at y)
 
 pub code-fits : {l : ℕ} → l ≤ 4001 → Fits w16 l
 code-fits {l} h = omega arith

@@ -1,6 +1,6 @@
 -- The tests of a table that is lent with a stack, in the order of document 01 ('Refusal numbers', 'Room' and 'Order'), and the stack check.
 -- Assumes nothing.
-use mathlib.Core.Bool.{Bool, _&&_}
+use mathlib.Core.Bool.{Bool, true, _&&_}
 use mathlib.Core.List.{List, []}
 use mathlib.Core.Option.{Option}
 use Prim.Native.Nat.{ℕ, _*_}
@@ -32,6 +32,11 @@ badEntry t ws c = fault literal (entryNames t) (all (bookOf t)) (entries ws c)
 abbrev pub entryTests : Table → List ℕ → ℕ → Option Refusal
 entryTests t ws c = test (leb c (t .clauses)) (BadStack 0) then testAt (badEntry t ws c) BadStack
 
+-- 4, 3, 5: the tests that come first in every call on a table with a stack. 3 is given for a short stack, and where `room` says that another buffer of
+-- the call is short.
+abbrev pub lentTests : Limits → Table → List ℕ → ℕ → Bool → Option Refusal
+lentTests lim t ws c room = tableTests lim t ws then test room NoRoom then entryTests t ws c
+
 -- an entry's literal blocks its clause among those live at that time
 unfoldable pub entryBlocks : Table → Test literal
 entryBlocks t L e = blocks literal (bookOf t) L (e .0) (e .1)
@@ -50,4 +55,4 @@ liveAfter t ws c = after literal (all (bookOf t)) (entries ws c)
 
 -- the stack check: 4, 3, 5, 6
 unfoldable pub check : Limits → Table → List ℕ → ℕ → Reply
-check lim t ws c = unless (tableTests lim t ws then entryTests t ws c then blockingTests t ws c) (answered [])
+check lim t ws c = unless (lentTests lim t ws c true then blockingTests t ws c) (answered [])

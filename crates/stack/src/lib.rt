@@ -10,7 +10,7 @@ ghost use Rattle.table.specs.Table.{table, sound};
 ghost use Rattle.table.specs.Answer.{verdict};
 ghost use Rattle.index.specs.Index.{liveOf, Indexed};
 ghost use Rattle.stack.specs.Tests.{entryNames, badEntry, check};
-ghost use Rattle.stack.specs.Inner.{Lent, Read, Checked};
+ghost use Rattle.stack.specs.Inner.{Lent, Read, Checked, Passed, Opened};
 
 // Whether an entry names a live clause and a literal of it.
 pub fn entry_names(
@@ -38,7 +38,7 @@ pub fn entry_names(
 }
 
 // The number of the first bad entry, from 1; 0 where there is none, and then what is live after the entries is marked.
-pub fn bad_entry(
+fn bad_entry(
     n: usize,
     m: usize,
     lits: &[u16],
@@ -66,7 +66,7 @@ pub fn bad_entry(
 
 // The number of the first entry, from 1, whose literal does not block its clause among those live at that time; 0 where there is none, and then
 // what is live after the entries is marked. No entry is bad.
-pub fn unblocked_entry(
+fn unblocked_entry(
     n: usize,
     m: usize,
     lits: &[u16],
@@ -96,6 +96,63 @@ pub fn unblocked_entry(
     0
 }
 
+// The tests that come first in every call on a table with a stack, in their order: the table is sound, the stack has room, so has any other buffer
+// of the call, as `room` says, and the count and the entries are good. Where all pass, what is live after the entries is marked.
+pub fn open_stack(
+    n: usize,
+    m: usize,
+    lits: &[u16],
+    offs: &[u32],
+    stack: &[u32],
+    count: usize,
+    room: bool,
+    live: &mut [u8],
+) -> Verdict
+    requires { ⌜ 4000 < length (now live) ⌝ }
+    ensures { λ r. ⌜ Opened (table n m (now (lits .entry)) (now (offs .entry))) (now (stack .entry)) count room (now (live .exit)) r ⌝ }
+{
+    if table::is_sound(n, m, lits, offs) {
+        if stack.len() < 2 * m {
+            return Verdict::Refused(Refusal::NoRoom);
+        }
+        if room {
+            if m < count {
+                return Verdict::Refused(Refusal::BadStack(0));
+            }
+            index::mark_all(m, live);
+            let bad = bad_entry(n, m, lits, offs, stack, count, live);
+            if 0 < bad {
+                return Verdict::Refused(Refusal::BadStack(bad));
+            }
+            return Verdict::Accepted;
+        }
+        return Verdict::Refused(Refusal::NoRoom);
+    }
+    Verdict::Refused(Refusal::BadTable)
+}
+
+// The number of the first entry, from 1, whose literal does not block its clause among those live at that time; 0 where there is none, and then
+// what is live after the entries is marked. The table and the stack passed the tests that come first.
+pub fn first_unblocked(
+    n: usize,
+    m: usize,
+    lits: &[u16],
+    offs: &[u32],
+    stack: &[u32],
+    count: usize,
+    live: &mut [u8],
+) -> usize
+    requires { ⌜ Passed (table n m (now lits) (now offs)) (now stack) count ⌝ }
+    requires { ⌜ m < length (now live) ⌝ }
+    ensures { λ r. ⌜ Checked (table n m (now (lits .entry)) (now (offs .entry))) (now (stack .entry)) count (now (live .exit)) r ⌝ }
+{
+    let mut heads = [0u16; 4002];
+    let mut nexts = [0u16; 16000];
+    index::index_rows(n, m, lits, offs, &mut heads, &mut nexts);
+    index::mark_all(m, live);
+    unblocked_entry(n, m, lits, offs, &heads, &nexts, stack, count, live)
+}
+
 // The stack check: whether every entry names a live clause with a literal that blocks it among those live at that time.
 pub fn check_stack(
     n: usize,
@@ -107,28 +164,16 @@ pub fn check_stack(
 ) -> Verdict
     ensures { λ r. ⌜ verdict r ≡ check base (table n m (now (lits .entry)) (now (offs .entry))) (now (stack .entry)) count ⌝ }
 {
-    if table::is_sound(n, m, lits, offs) {
-        if stack.len() < 2 * m {
-            return Verdict::Refused(Refusal::NoRoom);
+    let mut live = [0u8; 4001];
+    let opened = open_stack(n, m, lits, offs, stack, count, true, &mut live);
+    match opened {
+        Verdict::Refused(r) => Verdict::Refused(r),
+        Verdict::Accepted => {
+            let unblocked = first_unblocked(n, m, lits, offs, stack, count, &mut live);
+            if 0 < unblocked {
+                return Verdict::Refused(Refusal::NotBlocking(unblocked));
+            }
+            Verdict::Accepted
         }
-        if m < count {
-            return Verdict::Refused(Refusal::BadStack(0));
-        }
-        let mut live = [0u8; 4001];
-        index::mark_all(m, &mut live);
-        let bad = bad_entry(n, m, lits, offs, stack, count, &mut live);
-        if 0 < bad {
-            return Verdict::Refused(Refusal::BadStack(bad));
-        }
-        let mut heads = [0u16; 4002];
-        let mut nexts = [0u16; 16000];
-        index::index_rows(n, m, lits, offs, &mut heads, &mut nexts);
-        index::mark_all(m, &mut live);
-        let unblocked = unblocked_entry(n, m, lits, offs, &heads, &nexts, stack, count, &mut live);
-        if 0 < unblocked {
-            return Verdict::Refused(Refusal::NotBlocking(unblocked));
-        }
-        return Verdict::Accepted;
     }
-    Verdict::Refused(Refusal::BadTable)
 }

@@ -1,13 +1,15 @@
--- Answers in document 01's numbers: the map from the enums is one to one. Assumes nothing.
+-- Answers in document 01's numbers: the map from the enums is one to one. And tests one after the other: when all of them pass. Assumes nothing.
 use mathlib.Core.Path.{_≡_, refl, sym, _∙_, ap}
+use mathlib.Core.Bool.{Bool, true, false}
 use mathlib.Core.List.{List, []}
-use Prim.Native.Nat.{ℕ, zero, suc, _-_}
+use mathlib.Core.Option.{Option, none, some}
+use Prim.Native.Nat.{ℕ, zero, suc, _-_, _≤_, _<_}
 use native.Mathlib.Omega.{arith}
 use Rattle.table.specs.declared.Refusal.{Refusal}
 use Rattle.table.specs.declared.Refusal.the-variants.{BadText, OverLimit, NoRoom, BadTable, BadStack, NotBlocking, BadName, BadValues, NotModel, BadSaved}
 use Rattle.table.specs.declared.Verdict.{Verdict}
 use Rattle.table.specs.declared.Verdict.the-variants.{Accepted, Refused}
-use Rattle.table.specs.Answer.{Reply, answered, refused, paper, verdict}
+use Rattle.table.specs.Answer.{Reply, answered, refused, paper, verdict, asVerdict, test, testAt, _then_}
 
 -- the number and the place that are told of a refusal
 number : Reply → ℕ
@@ -57,3 +59,34 @@ verdict-one-to-one Accepted Accepted h = refl
 verdict-one-to-one Accepted (Refused b) h = absurd (not-answered b [] h)
 verdict-one-to-one (Refused a) Accepted h = absurd (not-answered a [] (sym h))
 verdict-one-to-one (Refused a) (Refused b) h = ap Refused (paper-one-to-one a b h)
+
+-- tests one after the other all pass exactly where each does
+pub then-none : (a b : Option Refusal) → (a then b) ≡ none → (a ≡ none) × (b ≡ none)
+then-none none b h = (refl, h)
+then-none (some r) b h = (h, cc)
+
+pub test-none : (b : Bool) (r : Refusal) → test b r ≡ none → b ≡ true
+test-none true r h = refl
+test-none false r h = cc
+
+pub testAt-none : (place : ℕ) (f : ℕ → Refusal) → testAt place f ≡ none → place ≡ 0
+testAt-none zero f h = refl
+testAt-none (suc place) f h = cc
+
+-- a place that is not 0 refuses
+pub testAt-some : (place : ℕ) (f : ℕ → Refusal) {found : ℕ} → found ≡ place → 0 < found → testAt place f ≡ some (f found)
+testAt-some zero f e h = absurd (omega arith)
+testAt-some (suc place) f e h = rw e
+
+-- a place that was found is 0, unless it is above
+pub nowhere : (place : ℕ) {found : ℕ} → found ≡ place → found ≤ 0 → place ≡ 0
+nowhere place e h = omega arith
+
+-- what a verdict says of the tests
+pub tests-pass : (o : Option Refusal) {v : Verdict} → v ≡ asVerdict o → v ≡ Accepted → o ≡ none
+tests-pass none e h = refl
+tests-pass (some r) e h = cc
+
+pub tests-refuse : (o : Option Refusal) (r : Refusal) {v : Verdict} → v ≡ asVerdict o → v ≡ Refused r → o ≡ some r
+tests-refuse none r e h = cc
+tests-refuse (some q) r e h = cc

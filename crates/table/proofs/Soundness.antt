@@ -8,14 +8,14 @@ use native.Mathlib.Nat.{le-refl, le-trans}
 use native.Mathlib.Omega.{arith}
 use mir.Syntax.{w32, w64}
 use mir.Val.{Fits}
-use borrow.Author.Tests.{leb-true, le-leb, lt-leb}
-use lib.ListN.{length, getD, length-take, length-drop}
+use borrow.Author.Tests.{leb-true, le-leb, lt-leb, not-true}
+use lib.ListN.{length, getD, take, length-take, length-drop}
 use lib.Seq.{getD-take, getD-drop}
 use Rattle.rules.specs.Walk.{every, everyTo}
 use Rattle.rules.specs.Clause.{Clause, mem}
-use Rattle.rules.proofs.Logic.{by-eq, and-true, differ, same}
+use Rattle.rules.proofs.Logic.{by-eq, and-true, differ, not-false, same}
 use Rattle.rules.proofs.Walks.{everyTo-at}
-use Rattle.rules.proofs.Members.{mem-nil, mem-cons, mem-here, mem-skip}
+use Rattle.rules.proofs.Members.{mem-nil, mem-cons, mem-at}
 use Rattle.table.specs.Limits.{Limits, base}
 use Rattle.table.specs.Table.{Table, offset, row, distinct, coded, soundClause, rises, soundRow, sound, names}
 use Rattle.table.specs.Inner.{Shape, endsSound}
@@ -103,11 +103,18 @@ pub row-distinct : (t : Table) → Sound t → (k : ℕ) → 1 ≤ k → k ≤ t
 unfolding soundClause
 row-distinct t s k l u = (simp and-true at (s .clause k l u)) .1
 
--- the literal at a place of a clause is in the clause
-pub mem-at : (C : Clause) (i : ℕ) → i < length C → mem (getD C i 0) C ≡ true
-mem-at [] i h = absurd (omega arith)
-mem-at (y ∷ C) zero h = mem-here y C
-mem-at (y ∷ C) (suc i) h = mem-skip (getD C i 0) y C (mem-at C i (omega arith))
+-- the literal at a place of a clause in which none stands twice is not among those before it
+pub fresh-at : (C : Clause) (i : ℕ) → distinct C ≡ true → i < length C → mem (getD C i 0) (take i C) ≡ false
+unfolding distinct
+fresh-at [] i d h = absurd (omega arith)
+fresh-at (y ∷ C) zero d h = mem-nil y
+fresh-at (y ∷ C) (suc i) d h =
+    let q = simp and-true at d in
+    let own : mem (getD C i 0) C ≡ true = mem-at C i (omega arith) in
+    not-false _ (λ m. ⊎-elim
+    (λ e. differ (rw e at own) (not-true _ (q .0)))
+    (λ r. differ r (fresh-at C i (q .1) (omega arith)))
+    (mem-cons (getD C i 0) y (take i C) m))
 
 -- one offset against the next
 pub rises-at : (t : Table) (k : ℕ) → getD (t .offs) k 0 ≤ getD (t .offs) (k + 1) 0 → rises t (k + 1) ≡ true

@@ -1,5 +1,5 @@
 -- A clause tested by stamps: of the literals passed each is coded, none stands twice, and exactly those bear the clause's stamp. Assumes nothing.
-use mathlib.Core.Path.{_≡_, refl, sym, _∙_, ap}
+use mathlib.Core.Path.{_≡_, refl, sym, _∙_}
 use mathlib.Core.Bool.{Bool, true, false, not, _&&_, _||_}
 use mathlib.Core.List.{List, [], _∷_}
 use mathlib.Core.Logic.{_≢_, ⊎-elim}
@@ -10,16 +10,15 @@ use native.Mathlib.Omega.{arith}
 use borrow.Author.Tests.{eq-eqb, ne-eqb, le-leb, lt-leb, not-true}
 use lib.Dec.{eqb, leb}
 use lib.ListN.{length, getD, take, set, replicate, length-set}
-use lib.Seq.{take-suc, take-all, getD-set-same, getD-set-other}
-use Rattle.rules.specs.Walk.{any, every}
+use lib.Seq.{take-all, getD-set-same, getD-set-other}
+use Rattle.rules.specs.Walk.{every}
 use Rattle.rules.specs.Clause.{Clause, mem}
 use Rattle.rules.proofs.Logic.{by-bool, by-eq, differ, and-true, and-no, or-no, or-yes, not-false}
-use Rattle.rules.proofs.Walks.{any-append}
-use Rattle.rules.proofs.Members.{mem-nil, mem-cons, mem-here, mem-skip}
+use Rattle.rules.proofs.Members.{mem-nil, mem-cons, mem-here, mem-skip, mem-at, mem-next}
 use Rattle.table.specs.Limits.{Limits}
 use Rattle.table.specs.Table.{distinct, coded, soundClause}
 use Rattle.table.specs.Inner.{Stamped}
-use Rattle.table.proofs.Soundness.{every-mem, mem-at, coded-bounds}
+use Rattle.table.proofs.Soundness.{every-mem, coded-bounds}
 
 -- one more literal
 every-next : (p : ℕ → Bool) (C : Clause) (i : ℕ) → i < length C → every p (take i C) ≡ true → p (getD C i 0) ≡ true → every p (take (suc i) C) ≡ true
@@ -27,14 +26,6 @@ unfolding every
 every-next p [] i l h e = absurd (omega arith)
 every-next p (y ∷ C) zero l h e = rw e
 every-next p (y ∷ C) (suc i) l h e = by-bool (p y) (λ a. rw a (every-next p C i (omega arith) (rw a at h) e)) (λ a. differ h (rw a))
-
-mem-next : (x : ℕ) (C : Clause) (i : ℕ) → i < length C → mem x (take (suc i) C) ≡ (mem x (take i C) || eqb x (getD C i 0))
-unfolding mem
-mem-next x C i l =
-    ap (any (eqb x)) (take-suc C i 0 l) ∙ any-append (eqb x) (take i C) (getD C i 0 ∷ []) ∙ ap (λ (b : Bool). any (eqb x) (take i C) || b) (one x (getD C i 0))
-  where
-    one : (x y : ℕ) → any (eqb x) (y ∷ []) ≡ eqb x y
-    one x y = unfold any in or-no (eqb x y)
 
 distinct-next : (C : Clause) (i : ℕ) → i < length C → distinct (take i C) ≡ true → mem (getD C i 0) (take i C) ≡ false → distinct (take (suc i) C) ≡ true
 unfolding distinct
@@ -123,8 +114,11 @@ unfolding soundClause
 uncoded-unsound lim n C i l f =
     not-false _ (λ h. differ (every-mem (coded n) C (getD C i 0) ((simp and-true at h) .0 .1) (mem-at C i l)) f)
 
--- before the first clause no code has a stamp
+-- a fresh array reads 0 everywhere, so before the first clause no code has a stamp
+pub zeros : (n x : ℕ) → getD {A = ℕ} (replicate n 0) x 0 ≡ 0
+zeros zero x = refl
+zeros (suc n) zero = refl
+zeros (suc n) (suc x) = zeros n x
+
 pub stamped-zeros : (n : ℕ) → Stamped (replicate n 0) 0
-stamped-zeros zero x = omega arith
-stamped-zeros (suc n) zero = omega arith
-stamped-zeros (suc n) (suc x) = stamped-zeros n x
+stamped-zeros n x = omega (arith, zeros n x)

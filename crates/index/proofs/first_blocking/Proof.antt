@@ -5,10 +5,11 @@ use borrow.Author.Needs.{needs}
 use lib.ListN.{length, drop}
 use Rattle.rules.specs.Blocking.{literal}
 use Rattle.rules.specs.Elimination.{firstReason}
+use Rattle.rules.proofs.Members.{own-at}
 use Rattle.table.specs.Table.{table, bookOf}
 use Rattle.table.proofs.Soundness.{Sound, sound-of}
 use Rattle.index.specs.Index.{liveOf}
-use Rattle.index.proofs.Reasons.{own-at, reason-here, reason-next, reason-none}
+use Rattle.index.proofs.Reasons.{reason-here, reason-next, reason-none}
 use Rattle.index.proofs.first_blocking.Statement.{statement}
 use Rattle.index.proofs.first_blocking.Tie as tie
 

@@ -6,11 +6,12 @@ use lib.ListN.{getD}
 use Rattle.rules.specs.Clause.{neg}
 use Rattle.rules.specs.Blocking.{literal}
 use Rattle.rules.specs.Book.{bars, obstacle}
+use Rattle.rules.proofs.Literals.{neg-coded}
 use Rattle.table.specs.Table.{table, row, bookOf}
 use Rattle.table.proofs.Soundness.{Sound, sound-of, literal-coded}
 use Rattle.index.specs.Index.{liveOf}
 use Rattle.index.proofs.Holders.{Walked, walk-start, walk-next, walk-stop, walk-end, ahead, ahead-less}
-use Rattle.index.proofs.Reasons.{bars-holder, bars-told, neg-coded}
+use Rattle.index.proofs.Reasons.{bars-holder, bars-told}
 use Rattle.index.proofs.test_literal.Statement.{statement}
 use Rattle.index.proofs.test_literal.Tie as tie
 

@@ -6,7 +6,8 @@ use lib.ListN.{getD}
 use Rattle.table.specs.Table.{Table, table}
 use Rattle.table.specs.Stack.{entryAt}
 use Rattle.table.proofs.Soundness.{sound-of}
-use Rattle.rebuild.proofs.Rows.{row-covered, row-tested, Named, entry-named, Coded, entry-coded}
+use Rattle.stack.proofs.Entries.{Named, entry-named}
+use Rattle.rebuild.proofs.Rows.{row-covered, row-tested}
 use Rattle.rebuild.proofs.Replay.{mended-keeps, mended-flips, flippable}
 use Rattle.rebuild.proofs.mend_at.Statement.{statement}
 use Rattle.rebuild.proofs.mend_at.Tie as tie
@@ -16,10 +17,7 @@ abbrev lent : tie.Start → Table
 lent s = table (s .args .n) (s .args .m) (s .args .lits .now) (s .args .offs .now)
 
 named : (s : tie.Start) → Named (lent s) (getD (s .args .stack .now) (2 * s .args .i) 0) (getD (s .args .stack .now) (2 * s .args .i + 1) 0)
-named s = entry-named _ _ _ (s .args .i) (s .pre .1 .1) (s .pre .1 .0 .good)
-
-coded : (s : tie.Start) → Coded (lent s) (getD (s .args .stack .now) (2 * s .args .i + 1) 0)
-coded s = entry-coded _ _ _ (s .args .i) (s .pre .0 .table-sound) (s .pre .1 .1) (s .pre .1 .0 .good)
+named s = entry-named _ _ _ (s .args .i) (s .pre .1 .0 .table-sound) (s .pre .1 .0 .none-bad) (s .pre .1 .1)
 
 mul-k : tie.Need-mul-k
 mul-k c = search needs
@@ -46,7 +44,7 @@ shared-slice-read-l : tie.Need-shared-slice-read-l
 shared-slice-read-l c = search needs
 
 cast-l : tie.Need-cast-l
-cast-l c = omega (arith, coded (c .before .before .before .before .before .before))
+cast-l c = omega (arith, named (c .before .before .before .before .before .before) .small)
 
 row-requires : tie.Need-row-requires
 row-requires c κs = (sound-of _ (c .before .before .before .before .before .before .pre .0 .table-sound) .shape, (named (c .before .before .before .before .before .before) .low, named (c .before .before .before .before .before .before) .high))
@@ -62,7 +60,7 @@ returns : tie.Need-returns
 returns c = mended-keeps _ (entryAt (c .before .before .before .before .before .before .before .before .before .before .args .stack .now) (c .before .before .before .before .before .before .before .before .before .before .args .i)) _ (row-tested _ (c .before .is-true .ensures) (c .before .before .before .row .ensures .contents) (c .if1 .taken))
 
 flip-at-requires : tie.Need-flip-at-requires
-flip-at-requires c κs = flippable _ _ _ (c .before .before .before .before .before .before .before .before .before .before .before .pre .0) (coded (c .before .before .before .before .before .before .before .before .before .before .before))
+flip-at-requires c κs = flippable _ _ _ (c .before .before .before .before .before .before .before .before .before .before .before .pre .0) (named (c .before .before .before .before .before .before .before .before .before .before .before) .code)
 
 same-length-2 : tie.Need-same-length-2
 same-length-2 c = search needs

@@ -2,7 +2,8 @@ use mathlib.Core.Path.{refl, sym, _∙_}
 use native.Mathlib.Omega.{arith}
 use borrow.Author.Needs.{needs}
 use Rattle.table.proofs.Soundness.{sound-of}
-use Rattle.removal.proofs.Desks.{zeros, desk-start}
+use Rattle.table.proofs.Stamps.{zeros}
+use Rattle.removal.proofs.Desks.{desk-start}
 use Rattle.removal.proofs.Outcomes.{elimination-unsound, elimination-narrow, elimination-made}
 use Rattle.removal.proofs.eliminate.Statement.{statement}
 use Rattle.removal.proofs.eliminate.Tie as tie

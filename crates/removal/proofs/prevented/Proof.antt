@@ -1,7 +1,7 @@
 use mathlib.Core.Path.{refl}
 use borrow.Author.Needs.{needs}
 use Rattle.removal.proofs.Questions.{not-blocks}
-use Rattle.removal.proofs.Desks.{zeros}
+use Rattle.table.proofs.Stamps.{zeros}
 use Rattle.removal.proofs.prevented.Statement.{statement}
 use Rattle.removal.proofs.prevented.Tie as tie
 

@@ -7,7 +7,7 @@ use lib.ListN.{length, length-set}
 use Rattle.table.specs.Table.{table}
 use Rattle.index.specs.Index.{liveOf}
 use Rattle.stack.specs.Tests.{entryBlocks}
-use Rattle.stack.proofs.Entries.{Reading, reading-start, reading-within, reading-named, reading-next, blocks-tested, code-fits, checked-stop, checked-end}
+use Rattle.stack.proofs.Entries.{Reading, reading-start, reading-within, reading-next, entry-named, blocks-tested, code-fits, checked-stop, checked-end}
 use borrow.Author.Needs.{needs}
 use Rattle.stack.proofs.unblocked_entry.Statement.{statement}
 use Rattle.stack.proofs.unblocked_entry.Tie as tie
@@ -50,13 +50,13 @@ cast-l : tie.Need-cast-l Inv-loop μ-loop
 cast-l c =
     let a = c .before .before .before .before .before .before .before .before .before .before .args in
     let t = table (a .n) (a .m) (a .lits .now) (a .offs .now) in
-    code-fits (reading-named t _ _ _ _ _ (c .before .before .before .loop .inv .0) (c .before .before .before .before .before .before .before .before .before .before .pre .0 .table-sound) (c .before .before .before .before .before .before .before .before .before .before .pre .1 .1) (c .before .before .loop-test .taken) .small)
+    code-fits (entry-named t _ _ (c .before .before .before .loop .i) (c .before .before .before .before .before .before .before .before .before .before .pre .0 .table-sound) (c .before .before .before .before .before .before .before .before .before .before .pre .1 .1) (c .before .before .loop-test .taken) .small)
 
 test-literal-requires : tie.Need-test-literal-requires Inv-loop μ-loop
 test-literal-requires c κs =
     let a = c .before .before .before .before .before .before .before .before .before .before .before .args in
     let t = table (a .n) (a .m) (a .lits .now) (a .offs .now) in
-    let n = reading-named t _ _ _ _ _ (c .before .before .before .before .loop .inv .0) (c .before .before .before .before .before .before .before .before .before .before .before .pre .0 .table-sound) (c .before .before .before .before .before .before .before .before .before .before .before .pre .1 .1) (c .before .before .before .loop-test .taken) in (
+    let n = entry-named t _ _ (c .before .before .before .before .loop .i) (c .before .before .before .before .before .before .before .before .before .before .before .pre .0 .table-sound) (c .before .before .before .before .before .before .before .before .before .before .before .pre .1 .1) (c .before .before .before .loop-test .taken) in (
       record {
         table-sound = c .before .before .before .before .before .before .before .before .before .before .before .pre .0 .table-sound;
         index = c .before .before .before .before .before .before .before .before .before .before .before .pre .1 .0;
@@ -70,7 +70,7 @@ slice-write-live : tie.Need-slice-write-live Inv-loop μ-loop
 slice-write-live c =
     let a = c .before .before .before .before .before .before .before .before .before .before .before .before .before .args in
     let t = table (a .n) (a .m) (a .lits .now) (a .offs .now) in
-    lt-of-le-of-lt (reading-named t _ _ _ _ _ (c .before .before .before .before .before .before .loop .inv .0) (c .before .before .before .before .before .before .before .before .before .before .before .before .before .pre .0 .table-sound) (c .before .before .before .before .before .before .before .before .before .before .before .before .before .pre .1 .1) (c .before .before .before .before .before .loop-test .taken) .high) (c .before .before .before .before .before .before .loop .inv .0 .many)
+    lt-of-le-of-lt (entry-named t _ _ (c .before .before .before .before .before .before .loop .i) (c .before .before .before .before .before .before .before .before .before .before .before .before .before .pre .0 .table-sound) (c .before .before .before .before .before .before .before .before .before .before .before .before .before .pre .1 .1) (c .before .before .before .before .before .loop-test .taken) .high) (c .before .before .before .before .before .before .loop .inv .0 .many)
 
 add-i : tie.Need-add-i Inv-loop μ-loop
 add-i c = search needs
@@ -82,7 +82,7 @@ loop-again : tie.Need-loop-again Inv-loop μ-loop
 loop-again c =
     let a = c .before .before .before .before .before .before .before .before .before .before .before .before .before .args in
     let t = table (a .n) (a .m) (a .lits .now) (a .offs .now) in
-    let n = reading-named t _ _ _ _ _ (c .before .before .before .before .before .before .loop .inv .0) (c .before .before .before .before .before .before .before .before .before .before .before .before .before .pre .0 .table-sound) (c .before .before .before .before .before .before .before .before .before .before .before .before .before .pre .1 .1) (c .before .before .before .before .before .loop-test .taken) in
+    let n = entry-named t _ _ (c .before .before .before .before .before .before .loop .i) (c .before .before .before .before .before .before .before .before .before .before .before .before .before .pre .0 .table-sound) (c .before .before .before .before .before .before .before .before .before .before .before .before .before .pre .1 .1) (c .before .before .before .before .before .loop-test .taken) in
     let y = blocks-tested t (liveOf (c .before .before .before .before .before .before .loop .live)) _ _ _ (n .holds) (c .before .test-literal .ensures) ∙ eq-eqb _ 0 (c .if1 .taken) in
     (reading-next _ _ _ _ _ _ (c .before .before .before .before .before .before .loop .inv .0) (c .before .before .before .before .before .loop-test .taken) y (n .high), length-set (c .before .before .before .before .before .before .loop .live) _ 0 ∙ c .before .before .before .before .before .before .loop .inv .1)
 
@@ -96,7 +96,7 @@ returns : tie.Need-returns Inv-loop μ-loop
 returns c =
     let a = c .before .before .before .before .before .before .before .before .before .before .before .before .before .args in
     let t = table (a .n) (a .m) (a .lits .now) (a .offs .now) in
-    let n = reading-named t _ _ _ _ _ (c .before .before .before .before .before .before .loop .inv .0) (c .before .before .before .before .before .before .before .before .before .before .before .before .before .pre .0 .table-sound) (c .before .before .before .before .before .before .before .before .before .before .before .before .before .pre .1 .1) (c .before .before .before .before .before .loop-test .taken) in
+    let n = entry-named t _ _ (c .before .before .before .before .before .before .loop .i) (c .before .before .before .before .before .before .before .before .before .before .before .before .before .pre .0 .table-sound) (c .before .before .before .before .before .before .before .before .before .before .before .before .before .pre .1 .1) (c .before .before .before .before .before .loop-test .taken) in
     let y = blocks-tested t (liveOf (c .before .before .before .before .before .before .loop .live)) _ _ _ (n .holds) (c .before .test-literal .ensures) ∙ ne-eqb _ 0 (c .if1 .left) in
     checked-stop _ _ _ _ _ (c .before .before .before .before .before .before .loop .inv .0) (c .before .before .before .before .before .loop-test .taken) y
 

@@ -1,0 +1,13 @@
+pub mod Digits
+pub mod Places
+pub mod Named
+pub mod Lengths
+pub mod Fields
+pub mod Accepted
+pub mod Parts
+pub mod Packed
+pub mod Lives
+pub mod RoundTrip
+pub mod Sound
+pub mod ReadBack
+pub mod Vector

@@ -1,0 +1,6 @@
+pub mod Bytes
+pub mod Field
+pub mod Form
+pub mod Reading
+pub mod Saved
+pub mod K2

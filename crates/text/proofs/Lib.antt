@@ -1,0 +1,11 @@
+pub mod Lines
+pub mod Tokens
+pub mod Results
+pub mod Codes
+pub mod Fills
+pub mod Outcomes
+pub mod Clean
+pub mod Laid
+pub mod Sound
+pub mod Once
+pub mod Claim

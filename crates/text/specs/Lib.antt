@@ -1,0 +1,7 @@
+pub mod Res
+pub mod Lines
+pub mod Problem
+pub mod Clauses
+pub mod Text
+pub mod Inner
+pub mod Examples
