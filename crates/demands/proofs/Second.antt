@@ -13,7 +13,7 @@ use Rattle.rules.specs.Book.{all, less, Entry, after, blocks, valid}
 use Rattle.rules.specs.Elimination.{remainder}
 use Rattle.rules.proofs.Logic.{and-true}
 use Rattle.rules.proofs.Laws.{Stuck, blocks-fits}
-use Rattle.rules.proofs.Sweeps.{after-append, eliminate-valid, remainder-stuck, stuck-next}
+use Rattle.rules.proofs.Sweeps.{after-append, eliminate-valid, remainder-stuck, remainder-unique, stuck-next}
 use Rattle.rules.proofs.Literals.{literal-sound}
 use Rattle.table.specs.Limits.{base}
 use Rattle.table.specs.Table.{Table, bookOf, sound}
@@ -26,7 +26,7 @@ use Rattle.removal.proofs.Pushes.{pushAll-lay}
 use Rattle.demands.specs.Calls.{Stack, stack, Call, calls, live}
 use Rattle.demands.specs.Demands.{Start, reached, NoneCanGo, NoneBlocked, EliminatesAll, LeavesTheRemainder}
 use Rattle.demands.proofs.Reaching.{Valid, count-small, count-below, lent-tests, table-tests, made-call, made-valid, empty-valid, reached-valid}
-use Rattle.demands.proofs.Third.{same-remainder}
+use Rattle.demands.proofs.Third.{none-stuck}
 
 -- the calls that make the removals of a list
 unfoldable callsOf : List (Entry literal) → List Call
@@ -135,7 +135,8 @@ eliminates-all t ws st =
     }
 
 pub leaves-the-remainder : LeavesTheRemainder
+unfolding liveAfter
 leaves-the-remainder t ws st xs n =
-    let e = eliminates-all t ws st in
-    same-remainder t ws ws st st xs (e .by-calls .0) n (subst (NoneCanGo t) (sym (e .by-calls .1)) (e .none-can-go))
-    ∙ ap (live t) (e .by-calls .1) ∙ e .remaining
+    let s = reached t ws xs in
+    let v = reached-valid t ws st xs in
+    remainder-unique literal (bookOf t) literal-sound (entries (s .words) (s .count)) (v .right) (none-stuck t s (st .table-sound) v n)

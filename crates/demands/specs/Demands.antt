@@ -12,7 +12,7 @@ use Rattle.rules.specs.Elimination.{remainder}
 use Rattle.table.specs.Limits.{base}
 use Rattle.table.specs.Table.{Table, row, bookOf, sound}
 use Rattle.table.specs.Values.{valuesOf}
-use Rattle.table.specs.Answer.{Reply, answered, refused, Outcome}
+use Rattle.table.specs.Answer.{answered, refused, Outcome}
 use Rattle.removal.specs.Removal.{elimination, question}
 use Rattle.rebuild.specs.Rebuild.{rebuilding}
 use Rattle.demands.specs.Calls.{Stack, stack, Call, calls, live}

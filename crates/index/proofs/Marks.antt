@@ -6,7 +6,7 @@ use mathlib.Core.Logic.{_≢_, by-cases}
 use Prim.Native.Nat.{ℕ, _+_, _≤_, _<_}
 use native.Mathlib.Decide.{decLt}
 use native.Mathlib.Omega.{arith}
-use borrow.Author.Tests.{eq-eqb, ne-eqb, eqb-true, le-leb, lt-leb}
+use borrow.Author.Tests.{eq-eqb, ne-eqb, le-leb, lt-leb}
 use lib.Dec.{eqb, leb}
 use lib.ListN.{length, getD, set, List·getD-eq-default}
 use lib.Seq.{getD-set-same, getD-set-other}
@@ -24,10 +24,6 @@ live-here ms k e = eq-eqb _ 1 e
 pub live-gone : (ms : List ℕ) (k : ℕ) → getD ms k 0 ≢ 1 → liveOf ms k ≡ false
 unfolding liveOf
 live-gone ms k n = ne-eqb _ 1 n
-
-pub live-marked : (ms : List ℕ) (k : ℕ) → liveOf ms k ≡ true → getD ms k 0 ≡ 1
-unfolding liveOf
-live-marked ms k h = eqb-true _ 1 h
 
 -- a mark taken away is one live clause less
 pub live-less : (ms : List ℕ) (k : ℕ) → k < length ms → liveOf (set ms k 0) ≡ less (liveOf ms) k

@@ -27,7 +27,8 @@ use Rattle.rebuild.proofs.Bytes.{values-good}
 
 -- one of the tests that come first refuses
 module _ (t : Table) (ws : List ℕ) (c : ℕ) (vs : List ℕ) where
-  pub rebuild-refused : (r : Refusal) → lentTests base t ws c (leb (t .variables) (length vs)) ≡ some r → outcome (verdict (Refused r)) vs ≡ rebuilding base t ws c vs
+  pub rebuild-refused : (r : Refusal) → lentTests base t ws c (leb (t .variables) (length vs)) ≡ some r
+      → outcome (verdict (Refused r)) vs ≡ rebuilding base t ws c vs
   unfolding rebuilding
   rebuild-refused r h = rw h
 

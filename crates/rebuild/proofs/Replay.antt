@@ -32,7 +32,8 @@ unfolding mendedBytes
 mended-flips t e vs h = rw h
 
 -- a literal of the table has its byte, 0 or 1
-pub flippable : (t : Table) (vs : List ℕ) (l : ℕ) → Valued t vs → (2 ≤ l) × (l ≤ 2 * t .variables + 1) → (2 ≤ l) × (l / 2 ≤ length vs) × (getD vs (l / 2 - 1) 0 ≤ 1)
+pub flippable : (t : Table) (vs : List ℕ) (l : ℕ) → Valued t vs → (2 ≤ l) × (l ≤ 2 * t .variables + 1)
+    → (2 ≤ l) × (l / 2 ≤ length vs) × (getD vs (l / 2 - 1) 0 ≤ 1)
 flippable t vs l v code = (code .0, omega (arith, code, v .room), v .bits (l / 2 - 1) (omega (arith, code)))
 
 -- the walk, from the newest entry on

@@ -27,10 +27,6 @@ pub by-or {ℓ} : {A B : Type 0} {P : Type ℓ} → A ⊎ B → (A → P) → (B
 by-or (inl a) f g = f a
 by-or (inr b) f g = g b
 
-pub or-false : (a b : Bool) → (a || b) ≡ false → (a ≡ false) × (b ≡ false)
-or-false true b h = (h, cc)
-or-false false b h = (refl, h)
-
 pub or-assoc : (a b c : Bool) → ((a || b) || c) ≡ (a || (b || c))
 or-assoc true b c = refl
 or-assoc false b c = refl
@@ -43,17 +39,9 @@ pub or-no : (b : Bool) → (b || false) ≡ b
 or-no true = refl
 or-no false = refl
 
-pub and-yes : (b : Bool) → (b && true) ≡ b
-and-yes true = refl
-and-yes false = refl
-
 pub and-no : (b : Bool) → (b && false) ≡ false
 and-no true = refl
 and-no false = refl
-
-pub and-assoc : (a b c : Bool) → (a && (b && c)) ≡ ((a && b) && c)
-and-assoc true b c = refl
-and-assoc false b c = refl
 
 pub not-not : (b : Bool) → not (not b) ≡ b
 not-not true = refl

@@ -1,7 +1,7 @@
 -- Elimination by sweeps: a valid sequence of removals that ends where nothing is blocked. Assumes nothing.
-use mathlib.Core.Path.{_≡_, refl, sym, _∙_, ap, subst}
+use mathlib.Core.Path.{_≡_, refl, sym, subst}
 use mathlib.Core.Bool.{Bool, true, false, cond}
-use mathlib.Core.List.{List, [], _∷_, _++_, append-assoc, append-nil}
+use mathlib.Core.List.{List, [], _∷_, _++_}
 use mathlib.Core.Logic.{_≢_}
 use Prim.Native.Nat.{ℕ, zero, suc, _+_, _≤_, _<_}
 use native.Mathlib.Omega.{arith}
@@ -12,7 +12,7 @@ use Rattle.rules.specs.Book.{Book, Live, all, less, Entry, after, blocks
 use Rattle.rules.specs.Elimination.{orList, joined, firstReason, turn, turns, sweeps, eliminate, remainder, nextBlocked}
 use Rattle.rules.specs.Proposition.{_∈_, here, there}
 use Rattle.rules.proofs.Logic.{by-bool, by-eq, by-list, differ, and-true, not-false, append-empty}
-use Rattle.rules.proofs.Laws.{Sound, Within, all-within, Stuck, after-in, less-in, blocks-fits, blocks-free, blocks-intro, confluent, _⊆_}
+use Rattle.rules.proofs.Laws.{Sound, Within, all-within, Stuck, after-in, less-in, blocks-fits, blocks-free, blocks-intro, confluent}
 
 -- how many of the clauses 1 to n are live
 unfoldable pub tally : Live → ℕ → ℕ
@@ -155,26 +155,6 @@ module _ (N : Notion) (b : Book) where
     pub remainder-unique : (s : List (Entry N)) → valid N b (all b) s ≡ true → Stuck N b (after N (all b) s) → after N (all b) s ≡ remainder N b
     unfolding remainder
     remainder-unique s v st = confluent N b (all b) s (eliminate N b) v eliminate-valid st remainder-stuck
-
-  pub remainder-in : remainder N b ⊆ all b
-  unfolding remainder
-  remainder-in = after-in N b (all b) (eliminate N b)
-
-  -- the outer loop of elimination: what is done, and what is still to do
-  abbrev pub ToDo : List (Entry N) → ℕ → Type 0
-  ToDo s f = eliminate N b ≡ s ++ sweeps N b f (after N (all b) s)
-
-  pub todo-start : ToDo [] (suc (b .count))
-  unfolding eliminate after
-  todo-start = refl
-
-  pub todo-more : (s : List (Entry N)) (f : ℕ) → ToDo s (suc f) → ToDo (s ++ turns N b (after N (all b) s) (b .count)) f
-  todo-more s f h =
-      h ∙ ap (λ (t : List (Entry N)). s ++ t) (sweeps-more f (after N (all b) s))
-      ∙ rw (append-assoc, after-append (all b) s (turns N b (after N (all b) s) (b .count)))
-
-  pub todo-end : (s : List (Entry N)) (f : ℕ) → ToDo s f → turns N b (after N (all b) s) (b .count) ≡ [] → eliminate N b ≡ s
-  todo-end s f h e = h ∙ rw (sweeps-end f (after N (all b) s) e) (append-nil s)
 
   -- the question
   or-empty : (s t : List (Entry N)) → orList s t ≡ [] → (s ≡ []) × (t ≡ [])

@@ -1,5 +1,5 @@
 -- What a loop knows of the walks: of a list's elements from i on or before i, of the numbers from 1 to i, of a list made by index. Assumes nothing.
-use mathlib.Core.Path.{_≡_, refl, sym, _∙_, ap, fun-ext}
+use mathlib.Core.Path.{_≡_, refl, sym, _∙_}
 use mathlib.Core.Bool.{Bool, true, false, _||_, cond}
 use mathlib.Core.List.{List, [], _∷_, _++_}
 use Prim.Native.Nat.{ℕ, zero, suc, _+_, _≤_, _<_}
@@ -27,9 +27,6 @@ pub any-append : (p : ℕ → Bool) (C D : List ℕ) → any p (C ++ D) ≡ (any
 unfolding any
 any-append p [] D = refl
 any-append p (x ∷ C) D = rw (any-append p C D) (sym (or-assoc (p x) (any p C) (any p D)))
-
-pub any-same : (p q : ℕ → Bool) (C : List ℕ) → ((x : ℕ) → p x ≡ q x) → any p C ≡ any q C
-any-same p q C h = ap (λ (f : ℕ → Bool). any f C) (fun-ext h)
 
 -- the numbers from 1 to n, all of which pass
 pub everyTo-next : (p : ℕ → Bool) (i : ℕ) → everyTo p i ≡ true → p (i + 1) ≡ true → everyTo p (i + 1) ≡ true

@@ -1,5 +1,5 @@
 -- Books, live clauses, stacks, and which clause is blocked (document 01, 'The desk's words' and 'The blocking rule'). Assumes nothing.
-use mathlib.Core.Bool.{Bool, true, false, not, _&&_, cond}
+use mathlib.Core.Bool.{Bool, true, not, _&&_, cond}
 use mathlib.Core.List.{List, [], _∷_}
 use Prim.Native.Nat.{ℕ, zero, suc}
 use lib.Dec.{eqb, leb}

@@ -1,5 +1,5 @@
 -- Elimination by sweeps and the question (document 01, 'The blocking rule' and 'Refusal numbers'). Assumes nothing.
-use mathlib.Core.Bool.{Bool, cond}
+use mathlib.Core.Bool.{cond}
 use mathlib.Core.List.{List, [], _∷_, _++_}
 use Prim.Native.Nat.{ℕ, zero, suc}
 use Rattle.rules.specs.Blocking.{Notion}

@@ -1,7 +1,7 @@
 -- Document 002, Definition 2, as a proposition, for a reader who trusts propositions more than programs. Assumes nothing.
 use mathlib.Core.Path.{_≡_}
 use mathlib.Core.Bool.{true}
-use mathlib.Core.List.{List, [], _∷_}
+use mathlib.Core.List.{List, _∷_}
 use mathlib.Core.Logic.{_⊎_, _≢_}
 use Prim.Native.Nat.{ℕ, _≤_}
 use Rattle.rules.specs.Clause.{Clause, neg}

@@ -29,8 +29,8 @@ pub marks-room : (t : Table) → sound base t ≡ true → {len : ℕ} → 4000 
 marks-room t s h = omega (arith, sound-of t s .clauses)
 
 -- what reading the entries needs: every clause is marked at first
-pub lent : (t : Table) (ws : List ℕ) (c : ℕ) {marks : List ℕ} {len : ℕ} → sound base t ≡ true → 2 * t .clauses ≤ length ws → c ≤ t .clauses → 4000 < len
-    → length marks ≡ len → liveOf marks ≡ oneTo (t .clauses) → Lent t ws c marks
+pub lent : (t : Table) (ws : List ℕ) (c : ℕ) {marks : List ℕ} {len : ℕ} → sound base t ≡ true → 2 * t .clauses ≤ length ws → c ≤ t .clauses
+    → 4000 < len → length marks ≡ len → liveOf marks ≡ oneTo (t .clauses) → Lent t ws c marks
 lent t ws c s wide few many same all =
     record { table-sound = s; room = wide; count = few; marks-many = marks-room t s (rw same many); marks-all = all }
 
@@ -50,9 +50,8 @@ lent-passed t ws c room h =
       test-none _ _ (d .0),
     )
 
-module _ (t : Table) (ws : List ℕ) (c : ℕ) where
-  pub passed-lent : Passed t ws c → lentTests base t ws c true ≡ none
-  passed-lent p = rw (p .table-sound, le-leb _ _ (p .room), le-leb _ _ (p .count), p .none-bad)
+pub passed-lent : (t : Table) (ws : List ℕ) (c : ℕ) → Passed t ws c → lentTests base t ws c true ≡ none
+passed-lent t ws c p = rw (p .table-sound, le-leb _ _ (p .room), le-leb _ _ (p .count), p .none-bad)
 
 -- the tests as they are made
 module _ (t : Table) (ws : List ℕ) (c : ℕ) (room : Bool) {marks : List ℕ} where

@@ -64,8 +64,7 @@ fn bad_entry(
     0
 }
 
-// The number of the first entry, from 1, whose literal does not block its clause among those live at that time; 0 where there is none, and then
-// what is live after the entries is marked. No entry is bad.
+// The answer of `first_unblocked`, once the index is built and every clause marked live.
 fn unblocked_entry(
     n: usize,
     m: usize,

@@ -1,13 +1,11 @@
 -- A stack as it lies in lent 32-bit words, two for each entry (clause number, literal code), beside a count; and what a call writes into a lent
 -- buffer (document 01, 'How a table lies in memory'). Assumes nothing.
-use mathlib.Core.Bool.{Bool}
 use mathlib.Core.List.{List, [], _∷_, _++_}
-use Prim.Native.Nat.{ℕ, zero, suc, _+_, _*_}
-use lib.Dec.{eqb}
+use Prim.Native.Nat.{ℕ, _+_, _*_}
 use lib.ListN.{length, getD, drop, set}
 use Rattle.rules.specs.Walk.{upto}
 use Rattle.rules.specs.Blocking.{literal}
-use Rattle.rules.specs.Book.{Live, Entry}
+use Rattle.rules.specs.Book.{Entry}
 
 -- the entry with i entries before it
 abbrev pub entryAt : List ℕ → ℕ → Entry literal

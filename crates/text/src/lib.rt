@@ -23,13 +23,12 @@ fn ends_at(text: &[u8], i: usize) -> bool
     requires { ⌜ i < length (now text) ⌝ }
     ensures { λ r. ⌜ r ≡ ends (drop i (now (text .entry))) ⌝ }
 {
-    if text[i] == b'\n' {
-        return true;
+    let b = text[i];
+    match b {
+        b'\n' => true,
+        b'\r' => words::begins_at(text, i + 1, b'\n'),
+        _ => false,
     }
-    if text[i] == b'\r' {
-        return words::begins_at(text, i + 1, b'\n');
-    }
-    false
 }
 
 // The end of the line that begins at `from`.

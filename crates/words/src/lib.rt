@@ -214,16 +214,18 @@ pub fn number_of(token: &[u8]) -> Number
         return Number::Bad;
     }
     let b = token[0];
-    if b == b'-' {
-        let x = natural_from(token, 1);
-        with_minus(x)
-    } else if b == b'0' {
-        if token.len() == 1 {
-            Number::Plain(0)
-        } else {
-            Number::Bad
+    match b {
+        b'-' => {
+            let x = natural_from(token, 1);
+            with_minus(x)
         }
-    } else {
-        natural_from(token, 0)
+        b'0' => {
+            if token.len() == 1 {
+                Number::Plain(0)
+            } else {
+                Number::Bad
+            }
+        }
+        _ => natural_from(token, 0),
     }
 }

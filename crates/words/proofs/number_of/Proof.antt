@@ -27,19 +27,19 @@ natural-from-requires-2 c κs = search needs
 returns-2 : tie.Need-returns-2
 returns-2 c =
     let w = c .before .before .before .before .before .before .args .token .now in
-    c .with-minus .ensures ∙ ap withMinus (c .before .natural-from .ensures) ∙ Digits.capped-minus (natural (drop 1 w)) ∙ sym (ap capped (Digits.number-minus w (omega arith) (omega arith)))
+    c .with-minus .ensures ∙ ap withMinus (c .before .natural-from .ensures) ∙ Digits.capped-minus (natural (drop 1 w)) ∙ sym (ap capped (Digits.number-minus w (omega arith) (c .before .before .match .keys1)))
 
 returns-3 : tie.Need-returns-3
 returns-3 c =
-    sym (ap capped (Digits.number-zero _ (c .if4 .taken) (c .before .if3 .taken)))
+    sym (ap capped (Digits.number-zero _ (c .if2 .taken) (c .before .match .keys2)))
 
 returns-4 : tie.Need-returns-4
 returns-4 c =
-    sym (ap capped (Digits.number-zeros _ (c .if4 .left) (c .before .if3 .taken)))
+    sym (ap capped (Digits.number-zeros _ (c .if2 .left) (c .before .match .keys2)))
 
 returns-5 : tie.Need-returns-5
 returns-5 c =
-    c .natural-from2 .ensures ∙ sym (ap capped (Digits.number-else _ (c .before .before .if2 .left) (c .before .if3 .left)))
+    c .natural-from2 .ensures ∙ sym (ap capped (Digits.number-else _ (c .before .match .rest .0 .1) (c .before .match .rest .1)))
 
 pub number-of-spec : {M : Type 1} → statement M
 number-of-spec =

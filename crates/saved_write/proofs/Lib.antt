@@ -1,0 +1,4 @@
+pub mod Laying
+pub mod Sections
+pub mod Refusals
+pub mod Once
