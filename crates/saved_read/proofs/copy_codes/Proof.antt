@@ -1,0 +1,72 @@
+use mathlib.Core.Path.{_≡_, refl, sym, ap, ap₂, _∙_}
+use mathlib.Core.List.{List, [], _∷_, _++_}
+use Prim.Native.Nat.{ℕ, suc, _+_, _-_, _*_, _/_, _%_, _≤_, _<_}
+use native.Mathlib.Omega.{arith}
+use lib.ListN.{length, getD, take, drop}
+use borrow.Author.Tests.{eq-eqb, ne-eqb, le-leb, lt-leb, lt-ltb, le-ltb, not-true}
+use Rattle.rules.proofs.Logic.{not-false}
+use Rattle.table.specs.Stack.{lay}
+use lib.ListN.{length-set}
+use Rattle.saved_read.proofs.Numbers.{lay-none, lay-more, lay-done}
+use borrow.Author.Needs.{needs}
+use Rattle.saved_read.proofs.copy_codes.Statement.{statement}
+use Rattle.saved_read.proofs.copy_codes.Tie as tie
+use Rattle.saved_read.proofs.copy_codes.Reads as reads
+use Rattle.saved_read.proofs.copy_codes.Lts as lts
+
+abbrev Inv-loop : tie.InvT-loop
+Inv-loop out₀ from i₀ out i = (i ≤ length from) × (length out ≡ length out₀) × (out ≡ lay (take i from) out₀)
+
+abbrev μ-loop : tie.MeasureT-loop
+μ-loop out₀ from i₀ out i = length from - i
+
+loop-holds : tie.Need-loop-holds Inv-loop μ-loop
+loop-holds c =
+    (omega arith, refl, lay-none _)
+
+mul-out : tie.Need-mul-out Inv-loop μ-loop
+mul-out c = search needs
+
+shared-slice-read-out : tie.Need-shared-slice-read-out Inv-loop μ-loop
+shared-slice-read-out c = search needs
+
+mul-out-2 : tie.Need-mul-out-2 Inv-loop μ-loop
+mul-out-2 c = search needs
+
+slice-write-out : tie.Need-slice-write-out Inv-loop μ-loop
+slice-write-out c = search needs
+
+add-i : tie.Need-add-i Inv-loop μ-loop
+add-i c = search needs
+
+loop-less : tie.Need-loop-less Inv-loop μ-loop
+loop-less c = search needs
+
+loop-again : tie.Need-loop-again Inv-loop μ-loop
+loop-again c =
+    let h : c .before .before .loop .i < length (c .before .before .before .args .from .now) = omega arith in
+    (omega arith, simp length-set (c .before .before .loop .inv .1), lay-more (c .before .before .before .args .from .now) (c .before .before .before .args .out .now) (c .before .before .loop .out) (c .before .before .loop .i) _ h (omega arith) refl (c .before .before .loop .inv .2))
+
+same-length : tie.Need-same-length Inv-loop μ-loop
+same-length c = search needs
+
+returns : tie.Need-returns Inv-loop μ-loop
+returns c =
+    lay-done (c .before .before .args .from .now) (c .before .before .args .out .now) _ (c .before .loop .i) (omega arith) (c .before .loop .inv .2)
+
+pub copy-codes-spec : {M : Type 1} → statement M
+copy-codes-spec =
+    tie.close
+    (tie.spec
+    Inv-loop
+    μ-loop
+    loop-holds
+    mul-out
+    shared-slice-read-out
+    mul-out-2
+    slice-write-out
+    add-i
+    loop-less
+    loop-again
+    same-length
+    returns)

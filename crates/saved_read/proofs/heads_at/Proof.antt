@@ -1,0 +1,24 @@
+use mathlib.Core.Path.{_≡_, refl, sym, ap, ap₂, _∙_}
+use mathlib.Core.List.{List, [], _∷_, _++_}
+use Prim.Native.Nat.{ℕ, suc, _+_, _-_, _*_, _/_, _%_, _≤_, _<_}
+use native.Mathlib.Omega.{arith}
+use lib.ListN.{length, getD, take, drop}
+use borrow.Author.Tests.{eq-eqb, ne-eqb, le-leb, lt-leb, lt-ltb, le-ltb, not-true}
+use Rattle.rules.proofs.Logic.{not-false}
+use lib.Dec.{ltb}
+use borrow.Author.Needs.{needs}
+use Rattle.saved_read.proofs.heads_at.Statement.{statement}
+use Rattle.saved_read.proofs.heads_at.Tie as tie
+use Rattle.saved_read.proofs.heads_at.Reads as reads
+use Rattle.saved_read.proofs.heads_at.Lts as lts
+
+returns : tie.Need-returns
+returns c =
+    (rw (lt-ltb (c .before .args .c) (c .before .args .r) (c .if1 .taken)), omega arith, omega arith)
+
+returns-2 : tie.Need-returns-2
+returns-2 c =
+    (rw (le-ltb (c .before .args .c) (c .before .args .r) (c .if1 .left)), omega arith, omega arith)
+
+pub heads-at-spec : {M : Type 1} → statement M
+heads-at-spec = tie.close (tie.spec returns returns-2)
