@@ -3,18 +3,17 @@
 use mathlib.Core.Path.{_≡_, refl, sym, _∙_, ap}
 use mathlib.Core.Bool.{Bool}
 use mathlib.Core.List.{List, [], _∷_}
-use mathlib.Core.Option.{Option, none, some}
 use Prim.Native.Nat.{ℕ, _≤_}
 use native.Mathlib.Omega.{arith}
 use denote.Ref.{RefT}
 use Rattle.table.specs.Limits.{base}
 use Rattle.table.specs.Table.{Table, sound, handedOut, handedFrom}
 use Rattle.table.specs.Inner.{Stretch}
-use Rattle.table.specs.Answer.{Reply, answered, refused, paper, verdict, Outcome, outcome, decided}
+use Rattle.table.specs.Answer.{Reply, refused, paper, verdict, Outcome, outcome}
 use Rattle.table.specs.declared.Refusal.{Refusal}
 use Rattle.table.specs.declared.Refusal.the-variants.{BadText, OverLimit, NoRoom, BadTable, BadStack, NotBlocking, BadName, BadValues, NotModel, BadSaved}
 use Rattle.table.specs.declared.Verdict.{Verdict}
-use Rattle.table.proofs.Answers.{paper-one-to-one, verdict-one-to-one, not-answered}
+use Rattle.table.proofs.Answers.{paper-one-to-one, verdict-one-to-one, not-answered, decided-keeps}
 use Rattle.stack.specs.Tests.{check, tableTests}
 use Rattle.removal.specs.Removal.{counted, nextReply, elimination, removal, removalTests, question}
 use Rattle.removal.specs.declared.Counted.{Counted}
@@ -36,11 +35,6 @@ numbered BadName = (7, 0, refl, omega arith, omega arith)
 numbered (BadValues p) = (8, p, refl, omega arith, omega arith)
 numbered (NotModel p) = (9, p, refl, omega arith, omega arith)
 numbered (BadSaved p) = (10, p, refl, omega arith, omega arith)
-
--- a refusal keeps the buffer, whatever the tests and the outcome of a success
-decided-keeps : (o : Option Refusal) (cells new vs : List ℕ) → RefusalKeeps (decided o cells (outcome (answered vs) new)) cells
-decided-keeps none cells new vs = λ n p h. cc
-decided-keeps (some r) cells new vs = λ n p h. refl
 
 pub eliminate-keeps : (t : Table) (ws : List ℕ) → RefusalKeeps (elimination base t ws) ws
 unfolding elimination

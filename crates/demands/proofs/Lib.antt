@@ -3,3 +3,4 @@ pub mod Reaching
 pub mod Third
 pub mod Second
 pub mod First
+pub mod Saving

@@ -1,6 +1,6 @@
 -- Every stack that removal calls lead to is valid, and so passes every test of a later call. Assumes nothing.
 use mathlib.Core.Path.{_≡_, refl, ap}
-use mathlib.Core.Bool.{Bool, true}
+use mathlib.Core.Bool.{Bool, true, _&&_}
 use mathlib.Core.List.{List, [], _∷_, _++_}
 use mathlib.Core.Option.{Option, none, some}
 use Prim.Native.Nat.{ℕ, suc, _+_, _*_, _≤_, _<_}
@@ -10,11 +10,11 @@ use borrow.Author.Tests.{le-leb}
 use lib.ListN.{length}
 use Rattle.rules.specs.Walk.{upto}
 use Rattle.rules.specs.Blocking.{literal}
-use Rattle.rules.specs.Book.{all, blocks, valid}
+use Rattle.rules.specs.Book.{Entry, all, after, blocks, valid, fault}
 use Rattle.rules.proofs.Logic.{and-true}
 use Rattle.rules.proofs.Laws.{Within, all-within, blocks-fits}
 use Rattle.rules.proofs.Sweeps.{tally, tally-le, tally-less, removed, valid-append, within-after}
-use Rattle.rules.proofs.Faults.{right, valid-fault, fault-weaker}
+use Rattle.rules.proofs.Faults.{right, valid-fault, fault-valid, fault-weaker, fault-both}
 use Rattle.table.specs.Limits.{base}
 use Rattle.table.specs.Table.{Table, bookOf, sound}
 use Rattle.table.specs.Stack.{entries, push}
@@ -30,21 +30,51 @@ use Rattle.demands.specs.Calls.{Stack, stack, Call, called, calls}
 use Rattle.demands.specs.Demands.{Start, reached}
 use Rattle.demands.proofs.Choosing.{by-tests, paper-count}
 
--- a stack with room whose entries are a valid sequence of removals
+-- the entries are a valid sequence of removals
+abbrev pub Right : Table → List (Entry literal) → Type 0
+Right t es = valid literal (bookOf t) (all (bookOf t)) es ≡ true
+
+-- so each names a live clause and a literal of it, and its literal blocks
+module _ (t : Table) (es : List (Entry literal)) (v : Right t es) where
+  pub valid-names : fault literal (entryNames t) (all (bookOf t)) es ≡ 0
+  unfolding entryNames
+  valid-names =
+      fault-weaker literal (right literal (bookOf t)) (entryNames t)
+      (λ M e h. let q = simp and-true at h in simp and-true (q .0, blocks-fits literal (bookOf t) M (e .0) (e .1) (q .1)))
+      (all (bookOf t)) es (valid-fault literal (bookOf t) (all (bookOf t)) es v)
+
+  pub valid-blocks : fault literal (entryBlocks t) (all (bookOf t)) es ≡ 0
+  unfolding entryBlocks
+  valid-blocks =
+      fault-weaker literal (right literal (bookOf t)) (entryBlocks t) (λ M e h. (simp and-true at h) .1)
+      (all (bookOf t)) es (valid-fault literal (bookOf t) (all (bookOf t)) es v)
+
+  -- as many entries as clauses that are gone
+  valid-balance : length es + tally (after literal (all (bookOf t)) es) (t .clauses) ≤ t .clauses
+  valid-balance = omega (arith, removed literal (bookOf t) (all (bookOf t)) es (all-within (bookOf t)) v, tally-le (all (bookOf t)) (t .clauses))
+
+  pub valid-short : length es ≤ t .clauses
+  valid-short = omega (arith, valid-balance)
+
+-- and the other way round
+pub names-blocks : (t : Table) (es : List (Entry literal)) → fault literal (entryNames t) (all (bookOf t)) es ≡ 0
+    → fault literal (entryBlocks t) (all (bookOf t)) es ≡ 0 → Right t es
+unfolding entryNames entryBlocks
+names-blocks t es n b =
+    fault-valid literal (bookOf t) (all (bookOf t)) es
+    (fault-weaker literal (λ M e. entryNames t M e && entryBlocks t M e) (right literal (bookOf t))
+    (λ M e h. let q = simp and-true at h in simp and-true (q .0 .0, q .1))
+    (all (bookOf t)) es (fault-both literal (entryNames t) (entryBlocks t) (all (bookOf t)) es n b))
+
+-- a stack with room whose entries are right
 pub record Valid (t : Table) (s : Stack) : Type 0 where
   pub room : 2 * t .clauses ≤ length (s .words)
-  pub right : valid literal (bookOf t) (all (bookOf t)) (entries (s .words) (s .count)) ≡ true
+  pub right : Right t (entries (s .words) (s .count))
 
 module _ (t : Table) (s : Stack) (v : Valid t s) where
-  -- as many entries as clauses that are gone
   balance : s .count + tally (liveAfter t (s .words) (s .count)) (t .clauses) ≤ t .clauses
   unfolding liveAfter
-  balance = omega (
-    arith,
-    removed literal (bookOf t) (all (bookOf t)) (entries (s .words) (s .count)) (all-within (bookOf t)) (v .right),
-    tally-le (all (bookOf t)) (t .clauses),
-    length-entries (s .words) (s .count),
-  )
+  balance = omega (arith, valid-balance t (entries (s .words) (s .count)) (v .right), length-entries (s .words) (s .count))
 
   pub live-within : Within (bookOf t) (liveAfter t (s .words) (s .count))
   unfolding liveAfter
@@ -60,19 +90,12 @@ module _ (t : Table) (s : Stack) (v : Valid t s) where
       omega (arith, balance, tally-less (liveAfter t (s .words) (s .count)) k (t .clauses) (w .0) (w .1) h)
 
   pub none-bad : badEntry t (s .words) (s .count) ≡ 0
-  unfolding badEntry entryNames
-  none-bad =
-      fault-weaker literal (right literal (bookOf t)) (entryNames t)
-      (λ M e h. let q = simp and-true at h in simp and-true (q .0, blocks-fits literal (bookOf t) M (e .0) (e .1) (q .1)))
-      (all (bookOf t)) (entries (s .words) (s .count))
-      (valid-fault literal (bookOf t) (all (bookOf t)) (entries (s .words) (s .count)) (v .right))
+  unfolding badEntry
+  none-bad = valid-names t (entries (s .words) (s .count)) (v .right)
 
   pub none-unblocked : unblockedEntry t (s .words) (s .count) ≡ 0
-  unfolding unblockedEntry entryBlocks
-  none-unblocked =
-      fault-weaker literal (right literal (bookOf t)) (entryBlocks t) (λ M e h. (simp and-true at h) .1)
-      (all (bookOf t)) (entries (s .words) (s .count))
-      (valid-fault literal (bookOf t) (all (bookOf t)) (entries (s .words) (s .count)) (v .right))
+  unfolding unblockedEntry
+  none-unblocked = valid-blocks t (entries (s .words) (s .count)) (v .right)
 
   -- the tests that come first pass, and so do those of the entries' literals
   pub lent-tests : sound base t ≡ true → (room : Bool) → room ≡ true → lentTests base t (s .words) (s .count) room ≡ none

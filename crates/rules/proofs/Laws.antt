@@ -128,3 +128,18 @@ module _ (N : Notion) (b : Book) where
         → ((v : Values) × Model L v) ↔ ((v : Values) × Model (after N L s) v)
     satisfiable L s wi h =
         (λ m. (m .0, λ k t. m .1 k (after-in L s k t)), λ m. (walk N b (m .0) s, rebuilt L s (m .0) wi h (m .1)))
+
+-- two books of as many clauses, and the same ones, have the same valid stacks
+module _ (N : Notion) (b c : Book) (many : b .count ≡ c .count) (same : (k : ℕ) → 1 ≤ k → k ≤ b .count → b .clause k ≡ c .clause k) where
+  blocks-same : (L : Live) (k : ℕ) (r : N .Reason) → 1 ≤ k → k ≤ b .count → blocks N b L k r ≡ true → blocks N c L k r ≡ true
+  blocks-same L k r l u h =
+      blocks-intro N c L k r (rw (← same k l u) (blocks-fits N b L k r h))
+      (λ j a z live. rw (← same k l u, ← same j a (rw many z)) (blocks-free N b L k r h j a (rw many z) live))
+
+  pub valid-same : (L : Live) → Within b L → (s : List (Entry N)) → valid N b L s ≡ true → valid N c L s ≡ true
+  unfolding valid
+  valid-same L w [] h = h
+  valid-same L w (e ∷ s) h =
+      let q = simp and-true at h in
+      let z = w (e .0) (q .0 .0) in
+      simp and-true ((q .0 .0, blocks-same L (e .0) (e .1) (z .0) (z .1) (q .0 .1)), valid-same (less L (e .0)) (λ k y. w k (less-in L (e .0) k y)) s (q .1))

@@ -48,6 +48,16 @@ pub mem-here : (x : ℕ) (C : Clause) → mem x (x ∷ C) ≡ true
 unfolding any mem
 mem-here x C = rw (eq-eqb x x refl)
 
+pub mem-other : (x y : ℕ) (C : Clause) → x ≢ y → mem x (y ∷ C) ≡ mem x C
+unfolding any mem
+mem-other x y C n = rw (ne-eqb x y n)
+
+-- what is not in a longer list is not its first, and not in the rest
+pub mem-not : (x y : ℕ) (C : Clause) → mem x (y ∷ C) ≡ false → (x ≢ y) × (mem x C ≡ false)
+mem-not x y C h =
+    let n : x ≢ y = λ e. differ (rw e (mem-here y C)) h in
+    (n, sym (mem-other x y C n) ∙ h)
+
 pub append-l : (x : ℕ) (C D : Clause) → mem x C ≡ true → mem x (C ++ D) ≡ true
 append-l x [] D h = differ h (mem-nil x)
 append-l x (y ∷ C) D h = ⊎-elim (λ e. rw e (mem-here y (C ++ D))) (λ m. mem-skip x y (C ++ D) (append-l x C D m)) (mem-cons x y C h)

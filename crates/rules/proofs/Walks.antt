@@ -42,6 +42,11 @@ everyTo-fails p (suc n) i f l =
 pub everyTo-end : (p : ℕ → Bool) (n i : ℕ) → everyTo p i ≡ true → i ≤ n → n ≤ i → everyTo p n ≡ true
 everyTo-end p n i h a b = let e : i ≡ n = omega arith in rw e at h
 
+pub everyTo-all : (p : ℕ → Bool) (n : ℕ) → ((k : ℕ) → 1 ≤ k → k ≤ n → p k ≡ true) → everyTo p n ≡ true
+unfolding everyTo
+everyTo-all p zero h = refl
+everyTo-all p (suc n) h = rw (everyTo-all p n (λ k l u. h k l (omega arith)), h (suc n) (omega arith) (omega arith))
+
 pub everyTo-at : (p : ℕ → Bool) (n k : ℕ) → everyTo p n ≡ true → 1 ≤ k → k ≤ n → p k ≡ true
 unfolding everyTo
 everyTo-at p zero k h l u = absurd (omega arith)
@@ -122,3 +127,14 @@ module _ {A : Type 0} where
   getD-upto f (suc n) i d h =
       by-eq i n (λ e. rw e (getD-at (upto f n) (f n) [] d n (length-upto f n)))
       (λ e. List·getD-append (upto f n) (f n ∷ []) d i (omega (arith, length-upto f n)) ∙ getD-upto f n i d (omega arith))
+
+  upto-first : (f : ℕ → A) (n : ℕ) → upto f (suc n) ≡ f 0 ∷ upto (λ i. f (suc i)) n
+  unfolding upto
+  upto-first f zero = refl
+  upto-first f (suc n) = rw (upto-first f n)
+
+  -- a list is made by the index into it
+  pub upto-at : (f : ℕ → A) (d : A) (s : List A) → ((i : ℕ) → i < length s → f i ≡ getD s i d) → upto f (length s) ≡ s
+  upto-at f d [] h = unfold upto in refl
+  upto-at f d (x ∷ s) h =
+      upto-first f (length s) ∙ rw (h 0 (omega arith), upto-at (λ i. f (suc i)) d s (λ i l. h (suc i) (omega arith)))

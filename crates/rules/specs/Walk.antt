@@ -3,6 +3,7 @@
 use mathlib.Core.Bool.{Bool, true, false, _&&_, _||_, cond}
 use mathlib.Core.List.{List, [], _∷_, _++_}
 use Prim.Native.Nat.{ℕ, zero, suc}
+use lib.Dec.{eqb}
 
 -- some element of the list passes
 unfoldable pub any : (ℕ → Bool) → List ℕ → Bool
@@ -13,6 +14,13 @@ any p (x ∷ xs) = p x || any p xs
 unfoldable pub every : (ℕ → Bool) → List ℕ → Bool
 every p [] = true
 every p (x ∷ xs) = p x && every p xs
+
+-- the two lists are equal, element by element
+abbrev pub same : List ℕ → List ℕ → Bool
+same [] [] = true
+same [] (y ∷ ys) = false
+same (x ∷ xs) [] = false
+same (x ∷ xs) (y ∷ ys) = eqb x y && same xs ys
 
 -- each number from 1 to n passes
 unfoldable pub everyTo : (ℕ → Bool) → ℕ → Bool

@@ -14,6 +14,7 @@ use Rattle.rules.specs.Clause.{mem}
 use Rattle.rules.proofs.Logic.{and-true}
 use Rattle.table.specs.Limits.{Limits, base}
 use Rattle.table.specs.Table.{distinct, coded}
+use Rattle.table.proofs.Answers.{then-none, test-none}
 use Rattle.table.specs.Answer.{test, _then_}
 use Rattle.table.specs.declared.Refusal.{Refusal}
 use Rattle.table.specs.declared.Refusal.the-variants.{OverLimit, BadSaved}
@@ -21,24 +22,17 @@ use Rattle.table.proofs.Soundness.{every-mem, coded-bounds}
 use Rattle.saved.specs.Bytes.{numbersOf}
 use Rattle.saved.specs.Field.{Layout, narrow, endTag, field, tagOf, lengthOf, valueOf, wholeField}
 use Rattle.saved.specs.Form.{Head, Line, Form, numberOf, blockingOf, headsAt, tagAt, headBytes, linesBytes, formBytes}
-use Rattle.saved.specs.Reading.{Res, fault, ok, onOk, orFault, fieldTests, headOf, headAt, headLimits, headTests, lineLength, lineLimits, newNumber, lineSound, lineAt, lineTests, endTests, readLines, readForm}
+use Rattle.table.specs.Res.{Res, fault, ok, onOk, orFault}
+use Rattle.saved.specs.Reading.{fieldTests, headOf, headAt, headLimits, headTests, lineLength, lineLimits, newNumber, lineSound, lineAt, lineTests, endTests, readLines, readForm}
 use Rattle.saved.proofs.Digits.{Bytes, Fit, bytes-drop, numbers-bytes}
 use Rattle.saved.proofs.Lengths.{length-field}
 use Rattle.saved.proofs.Fields.{written-tag, written-length, written-value, written-whole, written-rest, value-numbers, read-back}
 
 -- tests
 
-pub test-passed : (b : Bool) (r : Refusal) → test b r ≡ none → b ≡ true
-test-passed true r e = refl
-test-passed false r e = absurd (let z : _≡_ {A = ℕ} 0 1 = cc in omega arith)
-
-pub both-none : (a b : Option Refusal) → (a then b) ≡ none → (a ≡ none) × (b ≡ none)
-both-none none b e = (refl, e)
-both-none (some r) b e = absurd (let z : _≡_ {A = ℕ} 0 1 = cc in omega arith)
-
 -- a test that was passed, and the tests after it
 pub passed : (b : Bool) (r : Refusal) (o : Option Refusal) → (test b r then o) ≡ none → (b ≡ true) × (o ≡ none)
-passed b r o e = let q = both-none (test b r) o e in (test-passed b r (q .0), q .1)
+passed b r o e = let q = then-none (test b r) o e in (test-none b r (q .0), q .1)
 
 or-ok : {A : Type 0} (o : Option Refusal) (r : Res A) (a : A) → orFault o r ≡ ok a → (o ≡ none) × (r ≡ ok a)
 or-ok none r a e = (refl, e)
@@ -53,7 +47,7 @@ pub field-passed : (tag : ℕ) (b : List ℕ) (at : ℕ) (right : Bool) → fiel
 field-passed tag b at right e =
     let p = passed (wholeField b) (BadSaved at) _ e in
     let q = passed (eqb (tagOf b) tag) (BadSaved at) _ (p .1) in
-    (p .0, eqb-true (tagOf b) tag (q .0), test-passed right (BadSaved at) (q .1))
+    (p .0, eqb-true (tagOf b) tag (q .0), test-none right (BadSaved at) (q .1))
 
 -- what is accepted
 
@@ -192,10 +186,10 @@ module _ (lim : Limits) (lay : Layout) (suits : Suits lim lay) where
     line-good b at e =
         let w = lay .width in
         let x = numbersOf w (valueOf b) in
-        let p₁ = both-none (fieldTests (tagAt lay c (h .removals)) b at (lineLength lim lay heads (lengthOf b))) _ e in
+        let p₁ = then-none (fieldTests (tagAt lay c (h .removals)) b at (lineLength lim lay heads (lengthOf b))) _ e in
         let p₂ = field-passed (tagAt lay c (h .removals)) b at (lineLength lim lay heads (lengthOf b)) (p₁ .0) in
         let p₃ = passed (lineLimits lim lay heads total x) (OverLimit at) _ (p₁ .1) in
-        let p₄ = test-passed (lineSound lim lay heads h met x) (BadSaved at) (p₃ .1) in
+        let p₄ = test-none (lineSound lim lay heads h met x) (BadSaved at) (p₃ .1) in
         let q₂ = simp and-true at (p₂ .2) in
         let q₃ = simp and-true at (p₃ .0) in
         let q₄ = simp and-true at p₄ in
@@ -274,10 +268,10 @@ module _ (lim : Limits) (lay : Layout) (suits : Suits lim lay) where
     unfolding linesBytes literalsIn
     end-read met total at b e =
         let w = lay .width in
-        let p₁ = both-none (fieldTests endTag b at (eqb (lengthOf b) 0)) _ e in
+        let p₁ = then-none (fieldTests endTag b at (eqb (lengthOf b) 0)) _ e in
         let p₂ = field-passed endTag b at (eqb (lengthOf b) 0) (p₁ .0) in
         let p₃ = passed (eqb total (h .literals)) (BadSaved at) _ (p₁ .1) in
-        let n = eqb-true (length b) 3 (test-passed (eqb (length b) 3) (BadSaved (at + 3)) (p₃ .1)) in
+        let n = eqb-true (length b) 3 (test-none (eqb (length b) 3) (BadSaved (at + 3)) (p₃ .1)) in
         let l = eqb-true (lengthOf b) 0 (p₂ .2) in
         let m : lengthOf b % w ≡ 0 = rw l (zero-mod w) in
         let k = value-numbers b (p₂ .0) w (suits .wide) m in
@@ -387,10 +381,10 @@ module _ (lim : Limits) (lay : Layout) (suits : Suits lim lay) where
   head-good b e =
       let w = lay .width in
       let h = headOf lim lay (numbersOf w (valueOf b)) in
-      let p₁ = both-none (fieldTests (lay .header) b 0 (eqb (lengthOf b) (4 * w))) _ e in
+      let p₁ = then-none (fieldTests (lay .header) b 0 (eqb (lengthOf b) (4 * w))) _ e in
       let p₂ = field-passed (lay .header) b 0 (eqb (lengthOf b) (4 * w)) (p₁ .0) in
       let p₃ = passed (headLimits lim lay h) (OverLimit 0) _ (p₁ .1) in
-      let p₄ = test-passed (leb (h .removals) (h .clauses)) (BadSaved 0) (p₃ .1) in
+      let p₄ = test-none (leb (h .removals) (h .clauses)) (BadSaved 0) (p₃ .1) in
       let q = simp and-true at (p₃ .0) in
       let l : lengthOf b ≡ w * 4 = eqb-true (lengthOf b) (4 * w) (p₂ .2) ∙ mul-comm 4 w in
       let m : lengthOf b % w ≡ 0 = rw l (mul-mod-right w 4) in

@@ -6,11 +6,10 @@ use Prim.Native.Nat.{ℕ, zero, suc, _+_, _-_, _*_, _≤_}
 use native.Mathlib.Nat.{mul-zero, mul-add}
 use native.Mathlib.Omega.{arith}
 use lib.ListN.{length, length-append}
-use borrow.Author.Tests.{eqb-true}
 use Rattle.rules.specs.Clause.{mem}
 use Rattle.rules.specs.Blocking.{literal}
 use Rattle.rules.specs.Book.{Live, Entry, all, after, fault}
-use Rattle.rules.proofs.Logic.{by-bool, and-true}
+use Rattle.rules.proofs.Logic.{by-bool}
 use Rattle.table.specs.Limits.{base}
 use Rattle.table.specs.Table.{Table, offset, row, bookOf, sound}
 use Rattle.table.specs.Inner.{Shape}
@@ -105,10 +104,6 @@ module _ (t : Table) where
       let g = climb t h m (suc m) (omega arith) u in
       omega arith
 
-pub first-zero : (t : Table) → sound base t ≡ true → offset t 0 ≡ 0
-unfolding sound
-first-zero t h = eqb-true _ 0 ((simp and-true at h) .0 .0 .0 .0 .1)
-
 -- the lines of a table and its stack
 module _ (t : Table) (s : List (Entry literal)) (h : fault literal (entryNames t) (all (bookOf t)) s ≡ 0) where
   abbrev live : Live
@@ -147,7 +142,7 @@ module _ (t : Table) (s : List (Entry literal)) (h : fault literal (entryNames t
 
 pub encode-length : (t : Table) (s : List (Entry literal)) → sound base t ≡ true → fault literal (entryNames t) (all (bookOf t)) s ≡ 0
     → length (encode narrow t s) ≡ 14 + 5 * t .clauses + 2 * length s + 2 * offset t (t .clauses)
-encode-length t s q h = let a = form-length t s h narrow (sound-of t q .shape) (first-zero t q) in omega arith
+encode-length t s q h = let a = form-length t s h narrow (sound-of t q .shape) (sound-of t q .first) in omega arith
 
 -- "The longest form has 60,014 bytes."
 pub longest : (t : Table) (s : List (Entry literal)) → sound base t ≡ true → fault literal (entryNames t) (all (bookOf t)) s ≡ 0

@@ -10,4 +10,3 @@ pub mod Lives
 pub mod RoundTrip
 pub mod Sound
 pub mod ReadBack
-pub mod Vector

@@ -12,12 +12,12 @@ use Rattle.rules.specs.Clause.{mem}
 use Rattle.rules.specs.Blocking.{literal}
 use Rattle.rules.specs.Book.{Live, Entry}
 use Rattle.rules.proofs.Logic.{by-bool, by-eq, differ, and-true, not-false}
-use Rattle.rules.proofs.Members.{mem-nil, mem-here, mem-skip, mem-cons}
+use Rattle.rules.proofs.Members.{mem-nil, mem-here, mem-skip, mem-cons, mem-other, mem-not}
 use Rattle.table.specs.Limits.{Limits}
 use Rattle.table.specs.Table.{Table, row, soundClause}
 use Rattle.saved.specs.Form.{Head, Line, numberOf, liveLines, removedLines}
 use Rattle.saved.specs.Reading.{literalsOf}
-use Rattle.saved.proofs.Places.{New, mem-other, mem-not}
+use Rattle.saved.proofs.Places.{New}
 use Rattle.saved.proofs.Named.{named, Held}
 use Rattle.saved.proofs.Parts.{numbers, entriesIn, Alike, Rising, rising-above}
 use Rattle.saved.proofs.Lengths.{removed-count}

@@ -14,10 +14,10 @@ use Rattle.rules.specs.Book.{Live, Entry, oneTo, all, less, after, fault}
 use Rattle.rules.proofs.Logic.{by-bool, by-eq, differ, and-true, not-false}
 use Rattle.rules.proofs.Laws.{less-in, less-not, less-keeps, all-within}
 use Rattle.rules.proofs.Faults.{fault-head}
-use Rattle.rules.proofs.Members.{mem-nil, mem-here, mem-skip}
+use Rattle.rules.proofs.Members.{mem-nil, mem-here, mem-skip, mem-other}
 use Rattle.table.specs.Table.{Table, row, bookOf}
 use Rattle.stack.specs.Tests.{entryNames}
-use Rattle.saved.proofs.Places.{mem-other, New, new-within}
+use Rattle.saved.proofs.Places.{New, new-within}
 
 -- the clause numbers of the entries
 unfoldable pub named : List (Entry literal) → List ℕ

@@ -1,6 +1,6 @@
 -- Clauses packed one behind the other into a table: its offsets, its rows, and that it is sound where they are. Assumes nothing.
 use mathlib.Core.Path.{_≡_, refl, sym, ap, _∙_}
-use mathlib.Core.Bool.{Bool, true}
+use mathlib.Core.Bool.{true}
 use mathlib.Core.List.{List, [], _++_, append-assoc, append-nil}
 use Prim.Native.Nat.{ℕ, zero, suc, _+_, _-_, _≤_, _<_}
 use native.Mathlib.Omega.{arith}
@@ -8,21 +8,16 @@ use native.Mathlib.Numerals.{add-one}
 use lib.ListN.{length, getD, take, drop, length-append}
 use lib.Seq.{take-at, drop-at, take-add, ext-getD, getD-take, length-take-le}
 use borrow.Author.Tests.{eq-eqb, le-leb}
-use Rattle.rules.specs.Walk.{everyTo, upto}
+use Rattle.rules.specs.Walk.{upto}
 use Rattle.rules.specs.Clause.{Clause}
 use Rattle.rules.proofs.Logic.{by-eq}
-use Rattle.rules.proofs.Walks.{length-upto, getD-upto}
+use Rattle.rules.proofs.Walks.{everyTo-all, length-upto, getD-upto}
 use Rattle.table.specs.Limits.{Limits}
 use Rattle.table.specs.Table.{Table, table, offset, row, soundClause, rises, soundRow, sound}
 use Rattle.table.specs.Inner.{Shape}
 use Rattle.table.proofs.Soundness.{climb}
 use Rattle.saved.specs.Reading.{allLiterals, allOffsets}
 use Rattle.saved.proofs.Places.{sumTo}
-
-everyTo-all : (p : ℕ → Bool) (n : ℕ) → ((k : ℕ) → 1 ≤ k → k ≤ n → p k ≡ true) → everyTo p n ≡ true
-unfolding everyTo
-everyTo-all p zero h = refl
-everyTo-all p (suc n) h = rw (everyTo-all p n (λ k l u. h k l (omega arith)), h (suc n) (omega arith) (omega arith))
 
 row-next : (t : Table) (k : ℕ) → row t (suc k) ≡ take (offset t (suc k) - offset t k) (drop (offset t k) (t .lits))
 unfolding row
@@ -37,6 +32,11 @@ module _ (f : ℕ → Clause) where
   unfolding allLiterals sumTo
   packed-length zero = refl
   packed-length (suc m) = length-append (allLiterals f m) (f (suc m)) ∙ omega (arith, packed-length m)
+
+  -- one offset more than clauses
+  pub length-offsets : (m : ℕ) → length (allOffsets f m) ≡ m + 1
+  unfolding allOffsets
+  length-offsets m = length-upto (λ (j : ℕ). length (allLiterals f j)) (suc m) ∙ omega arith
 
   packed-front : (m k : ℕ) → k ≤ m → (rest : List ℕ) × (allLiterals f m ≡ allLiterals f k ++ rest)
   unfolding allLiterals
@@ -75,7 +75,7 @@ module _ (f : ℕ → Clause) where
         let z : offset (packed n m f) 0 ≡ 0 = packed-offset 0 (omega arith) ∙ unfold allLiterals in refl in
         let o = packed-offset m (omega arith) in
         let p = packed-length m in
-        let q : length (allOffsets f m) ≡ suc m = unfold allOffsets in length-upto (λ (j : ℕ). length (allLiterals f j)) (suc m) in
+        let q = length-offsets m in
         rw (
           le-leb n (lim .variables) v,
           le-leb m (lim .clauses) c,

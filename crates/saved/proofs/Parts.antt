@@ -13,12 +13,12 @@ use Rattle.rules.specs.Clause.{mem}
 use Rattle.rules.specs.Blocking.{literal}
 use Rattle.rules.specs.Book.{Entry}
 use Rattle.rules.proofs.Logic.{differ, not-false}
-use Rattle.rules.proofs.Members.{mem-nil, mem-here, mem-skip, mem-cons, mem-append}
+use Rattle.rules.proofs.Members.{mem-nil, mem-here, mem-skip, mem-cons, mem-append, mem-other, mem-not}
 use Rattle.table.specs.Limits.{Limits}
 use Rattle.saved.specs.Field.{Layout}
 use Rattle.saved.specs.Form.{Head, Line, Form, numberOf, blockingOf, headsAt}
 use Rattle.saved.specs.Reading.{newNumber, entriesOf}
-use Rattle.saved.proofs.Places.{New, mem-other, mem-not}
+use Rattle.saved.proofs.Places.{New}
 use Rattle.saved.proofs.Named.{named}
 use Rattle.saved.proofs.Lengths.{numbersIn}
 use Rattle.saved.proofs.Accepted.{GoodHead, GoodLine, GoodForm, Each, Newly, literalsIn}

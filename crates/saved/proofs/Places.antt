@@ -2,25 +2,13 @@
 use mathlib.Core.Path.{_≡_, refl, sym, ap, _∙_}
 use mathlib.Core.Bool.{true, false, cond}
 use mathlib.Core.List.{List, [], _∷_, _++_}
-use mathlib.Core.Logic.{_≢_}
 use Prim.Native.Nat.{ℕ, zero, suc, _+_, _≤_, _<_}
 use native.Mathlib.Omega.{arith}
 use lib.ListN.{length}
-use borrow.Author.Tests.{ne-eqb}
 use Rattle.rules.specs.Walk.{any}
 use Rattle.rules.specs.Clause.{mem}
 use Rattle.rules.proofs.Logic.{by-bool, by-eq, differ, not-false}
-use Rattle.rules.proofs.Members.{mem-nil, mem-here, append-r}
-
-pub mem-other : (x y : ℕ) (C : List ℕ) → x ≢ y → mem x (y ∷ C) ≡ mem x C
-unfolding any mem
-mem-other x y C n = rw (ne-eqb x y n)
-
--- what is not in a longer list is not its first, and not in the rest
-pub mem-not : (x y : ℕ) (C : List ℕ) → mem x (y ∷ C) ≡ false → (x ≢ y) × (mem x C ≡ false)
-mem-not x y C h =
-    let n : x ≢ y = λ e. differ (rw e (mem-here y C)) h in
-    (n, sym (mem-other x y C n) ∙ h)
+use Rattle.rules.proofs.Members.{mem-nil, mem-here, mem-other, append-r}
 
 -- numbers from 1 to m, each new
 abbrev pub New : ℕ → List ℕ → Type 0

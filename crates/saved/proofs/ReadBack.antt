@@ -14,7 +14,8 @@ use Rattle.table.specs.Limits.{Limits, base}
 use Rattle.table.specs.Table.{Table, offset, bookOf}
 use Rattle.saved.specs.Field.{Layout, narrow}
 use Rattle.saved.specs.Form.{Head, Line, Form, numberOf, formBytes, liveLines, removedLines, formOf, encode}
-use Rattle.saved.specs.Reading.{ok, readForm, tableOf, stackOf}
+use Rattle.table.specs.Res.{ok}
+use Rattle.saved.specs.Reading.{readForm, tableOf, stackOf}
 use Rattle.saved.proofs.Digits.{Bytes}
 use Rattle.saved.proofs.Places.{New, new-within, new-apart, all-there}
 use Rattle.saved.proofs.Named.{live-named}

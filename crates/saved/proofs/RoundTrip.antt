@@ -18,9 +18,10 @@ use Rattle.table.proofs.Soundness.{sound-of}
 use Rattle.stack.specs.Tests.{entryNames}
 use Rattle.saved.specs.Field.{Layout, narrow}
 use Rattle.saved.specs.Form.{Head, Line, liveLines, removedLines, formOf, encode}
-use Rattle.saved.specs.Reading.{ok, readForm, literalsOf, tableOf, stackOf}
+use Rattle.table.specs.Res.{ok}
+use Rattle.saved.specs.Reading.{readForm, literalsOf, tableOf, stackOf}
 use Rattle.saved.proofs.Named.{named, names-new, held, after-named, live-named}
-use Rattle.saved.proofs.Lengths.{numbers-append, removed-count, first-zero, lives-count, lines-numbers}
+use Rattle.saved.proofs.Lengths.{numbers-append, removed-count, lives-count, lines-numbers}
 use Rattle.saved.proofs.Accepted.{Suits, base-narrow, GoodHead, GoodForm, form-read}
 use Rattle.saved.proofs.Parts.{numbers, onto, onto-from, unmet-new, Alike, all-numbers, Parted, good-joined, entries-join}
 use Rattle.saved.proofs.Packed.{literals-again, offsets-again}
@@ -68,7 +69,7 @@ module _ (t : Table) (s : List (Entry literal)) (q : sound base t ≡ true) (h :
     total =
         let a = all-numbers base made 1 ls live-good in
         let b = all-numbers base made 2 gs gone-good in
-        let c = lines-numbers t s h (sound-of t q .shape) (first-zero t q) in
+        let c = lines-numbers t s h (sound-of t q .shape) (sound-of t q .first) in
         let d = numbers-append ls gs in
         omega (arith, lives-count t s h, removed-count t s);
   }
@@ -95,8 +96,8 @@ module _ (t : Table) (s : List (Entry literal)) (q : sound base t ≡ true) (h :
   pub table-back : (tableOf (formOf t s) .lits ≡ take (offset t (t .clauses)) (t .lits)) × (tableOf (formOf t s) .offs ≡ take (t .clauses + 1) (t .offs))
   unfolding formOf tableOf
   table-back = (
-    literals-again t (sound-of t q .shape) (first-zero t q) (literalsOf (length s) (ls ++ gs)) same-rows m (omega arith),
-    offsets-again t (sound-of t q .shape) (first-zero t q) (literalsOf (length s) (ls ++ gs)) same-rows,
+    literals-again t (sound-of t q .shape) (sound-of t q .first) (literalsOf (length s) (ls ++ gs)) same-rows m (omega arith),
+    offsets-again t (sound-of t q .shape) (sound-of t q .first) (literalsOf (length s) (ls ++ gs)) same-rows,
   )
 
   pub stack-back : stackOf (formOf t s) ≡ s

@@ -17,7 +17,8 @@ use Rattle.table.specs.Table.{Table, row, bookOf, distinct, soundClause, sound}
 use Rattle.stack.specs.Tests.{entryNames}
 use Rattle.saved.specs.Field.{Layout, narrow}
 use Rattle.saved.specs.Form.{Head, Line, Form, numberOf, blockingOf, headsAt}
-use Rattle.saved.specs.Reading.{ok, readForm, literalsOf, tableOf, stackOf}
+use Rattle.table.specs.Res.{ok}
+use Rattle.saved.specs.Reading.{readForm, literalsOf, tableOf, stackOf}
 use Rattle.saved.proofs.Places.{New, sumOf, sumTo, sum-all}
 use Rattle.saved.proofs.Named.{Held, new-names}
 use Rattle.saved.proofs.Accepted.{base-narrow, GoodHead, GoodForm, Each, form-was}

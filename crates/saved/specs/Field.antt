@@ -1,7 +1,7 @@
 -- Fields: a one-byte tag, a two-byte length of the value, and the value (document 01, 'The saved form'). Assumes nothing.
 use Prim.Native.Nat.{ℕ, _+_, _-_, _*_}
 use mathlib.Core.Bool.{Bool, _&&_}
-use mathlib.Core.List.{List, [], _∷_, _++_}
+use mathlib.Core.List.{List, _∷_, _++_}
 use lib.Dec.{leb}
 use lib.ListN.{length, getD, take, drop}
 use Rattle.saved.specs.Bytes.{digits, bytesOf}

@@ -3,4 +3,3 @@ pub mod Field
 pub mod Form
 pub mod Reading
 pub mod Saved
-pub mod K2

@@ -2,7 +2,7 @@
 use Prim.Native.Nat.{ℕ, zero, suc, _+_, _-_, _*_, _%_}
 use mathlib.Core.Bool.{Bool, not, _&&_, _||_, cond}
 use mathlib.Core.List.{List, [], _∷_, _++_}
-use mathlib.Core.Option.{Option, none, some}
+use mathlib.Core.Option.{Option}
 use lib.Dec.{eqb, leb, ltb}
 use lib.ListN.{length, getD, drop}
 use Rattle.rules.specs.Walk.{every, upto}
@@ -12,25 +12,12 @@ use Rattle.rules.specs.Book.{Entry}
 use Rattle.table.specs.Limits.{Limits}
 use Rattle.table.specs.Table.{Table, table, distinct, coded}
 use Rattle.table.specs.Answer.{test, _then_}
+use Rattle.table.specs.Res.{Res, ok, onOk, orFault}
 use Rattle.table.specs.declared.Refusal.{Refusal}
 use Rattle.table.specs.declared.Refusal.the-variants.{OverLimit, BadSaved}
 use Rattle.saved.specs.Bytes.{numbersOf}
 use Rattle.saved.specs.Field.{Layout, endTag, tagOf, lengthOf, valueOf, wholeField}
 use Rattle.saved.specs.Form.{Head, Line, Form, numberOf, blockingOf, headsAt, literalsAt, tagAt}
-
--- what reading comes to: a value, or a refusal
-pub data Res (A : Type 0) : Type 0 where
-  fault : Refusal → Res A
-  ok : A → Res A
-
-abbrev pub onOk : {A B : Type 0} → (A → B) → Res A → Res B
-onOk f (fault r) = fault r
-onOk f (ok a) = ok (f a)
-
--- the reading, unless a test refuses
-abbrev pub orFault : {A : Type 0} → Option Refusal → Res A → Res A
-orFault none r = r
-orFault (some x) r = fault x
 
 -- "In one field the order is: whole field present, tag, length, limits (2), the rest." The first three of the field at the front of the bytes b, which
 -- has the offset `at`.

@@ -1,12 +1,12 @@
 -- The two calls: the writer and the reader of the saved form, refusals and every lent cell included (document 01, 'Refusal numbers'). Assumes nothing.
 use Prim.Native.Nat.{ℕ, _+_, _*_}
-use mathlib.Core.Bool.{Bool, true}
+use mathlib.Core.Bool.{true}
 use mathlib.Core.List.{List, [], _∷_}
 use mathlib.Core.Option.{Option, none, some}
 use lib.Dec.{leb}
 use lib.ListN.{length}
 use Rattle.rules.specs.Blocking.{literal}
-use Rattle.rules.specs.Book.{Entry, all, fault as firstBad}
+use Rattle.rules.specs.Book.{all, fault as firstBad}
 use Rattle.table.specs.Limits.{Limits}
 use Rattle.table.specs.Table.{Table, bookOf}
 use Rattle.table.specs.Stack.{entries, words, lay as laid}
@@ -16,7 +16,8 @@ use Rattle.table.specs.declared.Refusal.the-variants.{NoRoom, NotBlocking}
 use Rattle.stack.specs.Tests.{lentTests, entryBlocks, blockingTests}
 use Rattle.saved.specs.Field.{Layout}
 use Rattle.saved.specs.Form.{Form, encode}
-use Rattle.saved.specs.Reading.{Res, fault, ok, readForm, tableOf, stackOf}
+use Rattle.table.specs.Res.{Res, fault, ok}
+use Rattle.saved.specs.Reading.{readForm, tableOf, stackOf}
 
 -- write_saved: 4, 3 for the stack, 5, 6, then 3 for an output that is shorter than the form
 unfoldable pub writing : Limits → Layout → Table → List ℕ → ℕ → List ℕ → Outcome

@@ -1,18 +1,17 @@
 -- The field found at a place, the header, and the tests of a clause's value, case by case. Assumes nothing.
 use mathlib.Core.Path.{_≡_, refl, sym, ap, _∙_}
-use mathlib.Core.Bool.{Bool, true, false, cond, _&&_, _||_}
-use mathlib.Core.List.{List, [], _∷_}
+use mathlib.Core.Bool.{Bool, true, false, cond, _&&_}
+use mathlib.Core.List.{List}
 use mathlib.Core.Option.{Option, none, some}
-use Prim.Native.Nat.{ℕ, zero, suc, _+_, _-_, _*_, _/_, _%_, _≤_, _<_}
+use Prim.Native.Nat.{ℕ, _+_, _-_, _*_, _/_, _%_, _≤_, _<_}
 use native.Mathlib.Omega.{arith}
 use native.Mathlib.Nat.{add-assoc, add-zero}
-use lib.Dec.{eqb, leb, ltb}
+use lib.Dec.{eqb, leb}
 use lib.ListN.{length, getD, take, drop, length-drop}
 use lib.Seq.{drop-drop, getD-drop}
 use borrow.Author.Tests.{eq-eqb, ne-eqb, eqb-true, le-leb, lt-leb, leb-true}
 use Rattle.rules.specs.Walk.{every}
-use Rattle.rules.specs.Clause.{mem}
-use Rattle.rules.proofs.Logic.{by-bool, differ, and-true}
+use Rattle.rules.proofs.Logic.{differ, and-true}
 use Rattle.table.specs.Limits.{base}
 use Rattle.table.specs.Table.{coded, distinct}
 use Rattle.table.specs.Answer.{test, _then_, asVerdict}
@@ -25,7 +24,7 @@ use Rattle.saved.specs.Form.{Head, Line, numberOf, blockingOf}
 use Rattle.saved.specs.Reading.{headOf, headAt, headLimits, headTests, lineLength, lineLimits, endTests}
 use Rattle.saved.proofs.Digits.{number-at}
 use Rattle.saved.proofs.Fields.{value-size}
-use Rattle.saved_read.specs.Inner.{valueAt, headerOr, given, countsOf, headerOf, headWith, newOn, blockOn, soundOn, valueTests, stretchOr, stretchOn, lineOr, testsOn, lineOn}
+use Rattle.saved_read.specs.Inner.{valueAt, headerOr, given, countsOf, headerOf, newOn, blockOn, soundOn, valueTests, stretchOr, stretchOn, lineOr, lineOn}
 use Rattle.saved_read.specs.declared.Value.{Value}
 use Rattle.saved_read.specs.declared.Header.{Header}
 use Rattle.saved_read.specs.declared.Stretch.{Stretch}

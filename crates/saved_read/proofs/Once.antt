@@ -5,13 +5,14 @@ use mathlib.Core.Option.{Option, none, some}
 use Prim.Native.Nat.{ℕ}
 use native.Mathlib.Omega.{arith}
 use Rattle.table.specs.Limits.{base}
-use Rattle.table.specs.Answer.{Reply, answered, refused, testAt}
+use Rattle.table.specs.Answer.{answered, refused, testAt}
 use Rattle.table.specs.declared.Refusal.{Refusal}
 use Rattle.table.specs.declared.Refusal.the-variants.{NotBlocking}
 use Rattle.table.proofs.Answers.{paper-one-to-one, not-answered}
 use Rattle.saved.specs.Field.{narrow}
 use Rattle.saved.specs.Form.{Form}
-use Rattle.saved.specs.Reading.{Res, fault, ok, readForm}
+use Rattle.table.specs.Res.{Res, fault, ok}
+use Rattle.saved.specs.Reading.{readForm}
 use Rattle.saved.specs.Saved.{Loaded, loaded, orKept, accepted, unblocked, unpacked, roomTests, reading}
 use Rattle.saved_read.specs.Restored.{restored}
 use Rattle.saved_read.specs.declared.Restored.{Restored}

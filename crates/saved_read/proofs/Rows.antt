@@ -1,26 +1,19 @@
--- The table filled from the places remembered, clause by clause; and the words of a stack's entries. Assumes nothing.
-use mathlib.Core.Path.{_≡_, refl, sym, ap, ap₂, _∙_}
-use mathlib.Core.List.{List, [], _∷_, _++_, append-assoc}
-use Prim.Native.Nat.{ℕ, zero, suc, _+_, _-_, _*_, _≤_, _<_}
+-- The table filled from the places remembered, clause by clause. Assumes nothing.
+use mathlib.Core.Path.{_≡_, refl, sym, ap, _∙_}
+use mathlib.Core.List.{List, []}
+use Prim.Native.Nat.{ℕ, zero, suc, _+_, _-_, _≤_, _<_}
 use native.Mathlib.Omega.{arith}
 use native.Mathlib.Numerals.{add-one}
-use lib.ListN.{length, getD, take, drop, set, length-append}
-use lib.Seq.{take-suc, drop-set-lt}
+use lib.ListN.{length, take, drop, set, length-append}
 use borrow.Rule.Slice.PartMut.{putMid}
 use Rattle.rules.specs.Walk.{upto}
 use Rattle.rules.specs.Clause.{Clause}
-use Rattle.rules.specs.Blocking.{literal}
-use Rattle.rules.specs.Book.{Entry}
 use Rattle.rules.proofs.Walks.{length-upto, upto-same}
 use Rattle.rules.proofs.Logic.{by-eq}
-use Rattle.table.specs.Stack.{entryAt, entries, words, lay}
+use Rattle.table.specs.Stack.{lay}
 use Rattle.saved.specs.Reading.{allLiterals, allOffsets}
-use Rattle.saved_read.proofs.Numbers.{tail-laid, set-lay}
-
--- a cell that is laid over does not count
-pub lay-over : (xs o : List ℕ) (a : ℕ) → 0 < length xs → lay xs (set o 0 a) ≡ lay xs o
-unfolding lay
-lay-over xs o a h = rw (drop-set-lt (length xs) o 0 a h)
+use Rattle.saved.proofs.Packed.{length-offsets}
+use Rattle.table.proofs.Laying.{set-lay, lay-over, tail-laid}
 
 module _ (f : ℕ → Clause) where
   pub length-more : (k : ℕ) → length (allLiterals f (k + 1)) ≡ length (allLiterals f k) + length (f (k + 1))
@@ -36,10 +29,6 @@ module _ (f : ℕ → Clause) where
       by-eq k (suc m) (λ e. rw e (omega arith))
       (λ e. let a = length-most m k (omega arith) in let z = last m in omega arith)
 
-  pub length-offsets : (k : ℕ) → length (allOffsets f k) ≡ k + 1
-  unfolding allOffsets
-  length-offsets k = length-upto (λ (j : ℕ). length (allLiterals f j)) (suc k) ∙ sym (add-one k)
-
   pub literals-start : (o : List ℕ) → o ≡ lay (allLiterals f 0) o
   unfolding allLiterals lay
   literals-start o = refl
@@ -49,7 +38,7 @@ module _ (f : ℕ → Clause) where
   offsets-start o h = set-lay [] o 0 0 refl h
 
   pub offsets-begin : (o : List ℕ) → 0 < length o → set o 0 0 ≡ lay (allOffsets f 0) (set o 0 0)
-  offsets-begin o h = offsets-start o h ∙ sym (lay-over (allOffsets f 0) o 0 (omega (arith, length-offsets 0)))
+  offsets-begin o h = offsets-start o h ∙ sym (lay-over (allOffsets f 0) o 0 (omega (arith, length-offsets f 0)))
 
   pub literals-none : 0 ≡ length (allLiterals f 0)
   unfolding allLiterals
@@ -63,7 +52,7 @@ module _ (f : ℕ → Clause) where
   pub offsets-more : (k x : ℕ) (old out : List ℕ) → out ≡ lay (allOffsets f k) old → k + 1 < length old → x ≡ length (allLiterals f (k + 1))
       → set out (k + 1) x ≡ lay (allOffsets f (k + 1)) old
   offsets-more k x old out e l h =
-      rw (e, h) (set-lay (allOffsets f k) old (length (allLiterals f (k + 1))) (k + 1) (length-offsets k) l ∙ rw (add-one k) (unfold allOffsets upto in refl))
+      rw (e, h) (set-lay (allOffsets f k) old (length (allLiterals f (k + 1))) (k + 1) (length-offsets f k) l ∙ rw (add-one k) (unfold allOffsets upto in refl))
 
 -- the same clauses give the same lists
 pub literals-same : (f g : ℕ → Clause) (m : ℕ) → ((k : ℕ) → f k ≡ g k) → allLiterals f m ≡ allLiterals g m
@@ -75,21 +64,3 @@ pub offsets-same : (f g : ℕ → Clause) (m : ℕ) → ((k : ℕ) → f k ≡ g
 unfolding allOffsets
 offsets-same f g m h =
     upto-same (λ (k : ℕ). length (allLiterals f k)) (λ (k : ℕ). length (allLiterals g k)) (suc m) (λ k u. ap length (literals-same f g k h))
-
--- the words of the first c entries
-words-append : (s t : List (Entry literal)) → words (s ++ t) ≡ words s ++ words t
-unfolding words
-words-append [] t = refl
-words-append (e ∷ s) t = rw (words-append s t)
-
-pub words-entries : (ws : List ℕ) (c : ℕ) → 2 * c ≤ length ws → words (entries ws c) ≡ take (2 * c) ws
-words-entries ws zero h = unfold entries upto words in refl
-words-entries ws (suc c) h =
-    let i = words-entries ws c (omega arith) in
-    let e : 2 * suc c ≡ suc (suc (2 * c)) = omega arith in
-    let q : 2 * c + 1 ≡ suc (2 * c) = omega arith in
-    let a = take-suc ws (suc (2 * c)) 0 (omega arith) in
-    let b = take-suc ws (2 * c) 0 (omega arith) in
-    let z : words (entries ws (suc c)) ≡ words (entries ws c) ++ (getD ws (2 * c) 0 ∷ getD ws (2 * c + 1) 0 ∷ []) =
-    unfold entries upto in words-append (upto (entryAt ws) c) (entryAt ws c ∷ []) ∙ unfold words in refl in
-    z ∙ rw (i, e, a, b, q, append-assoc (take (2 * c) ws) (getD ws (2 * c) 0 ∷ []) (getD ws (suc (2 * c)) 0 ∷ []))

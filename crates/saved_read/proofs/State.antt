@@ -1,39 +1,37 @@
 -- The scan over a form's lines: what holds between two lines, that a line keeps it, and what it comes to at a refusal and at the end. Assumes nothing.
-use mathlib.Core.Path.{_≡_, refl, sym, ap, ap₂, _∙_}
-use mathlib.Core.Bool.{Bool, true, false, cond, not, _&&_}
+use mathlib.Core.Path.{_≡_, refl, sym, ap, _∙_}
+use mathlib.Core.Bool.{true, false, cond, not}
 use mathlib.Core.List.{List, [], _∷_, _++_, append-assoc, append-nil}
 use mathlib.Core.Logic.{_≢_}
 use mathlib.Core.Option.{Option, none, some}
 use Prim.Native.Nat.{ℕ, zero, suc, _+_, _-_, _*_, _≤_, _<_}
 use native.Mathlib.Omega.{arith}
-use lib.Dec.{eqb, leb, ltb, eqb·suc-zero}
-use lib.ListN.{length, getD, take, drop, set, length-set, length-drop, length-take}
-use lib.Seq.{drop-drop, getD-set-same, getD-set-other, take-nil, take-all}
-use borrow.Author.Tests.{eq-eqb, ne-eqb, eqb-true, eqb-false, leb-true, ltb-true, ltb-false, lt-ltb, le-ltb}
+use lib.Dec.{eqb, ltb, eqb·suc-zero}
+use lib.ListN.{length, getD, take, drop, set, length-set}
+use lib.Seq.{drop-drop, getD-set-same, getD-set-other, take-nil}
+use borrow.Author.Tests.{eq-eqb, ne-eqb, eqb-true, leb-true, ltb-true, ltb-false, le-ltb}
 use Rattle.rules.specs.Walk.{upto}
 use Rattle.rules.specs.Clause.{mem}
-use Rattle.rules.specs.Blocking.{literal}
-use Rattle.rules.specs.Book.{Entry}
-use Rattle.rules.proofs.Logic.{by-bool, by-eq, differ, and-true, not-not}
-use Rattle.rules.proofs.Members.{mem-nil, mem-here}
+use Rattle.rules.proofs.Logic.{by-bool, by-eq, and-true, not-not}
+use Rattle.rules.proofs.Members.{mem-nil, mem-here, mem-other}
 use Rattle.table.specs.Limits.{base}
-use Rattle.table.specs.Stack.{entries, push}
+use Rattle.table.specs.Stack.{entries}
 use Rattle.table.specs.Answer.{test, _then_}
 use Rattle.table.specs.declared.Refusal.{Refusal}
 use Rattle.table.specs.declared.Refusal.the-variants.{OverLimit, BadSaved}
 use Rattle.table.proofs.Stacks.{entries-push, length-push}
 use Rattle.saved.specs.Bytes.{numbersFrom, numbersOf}
 use Rattle.saved.specs.Field.{narrow, tagOf, lengthOf, valueOf, wholeField}
-use Rattle.saved.specs.Form.{Head, Line, numberOf, blockingOf, headsAt, tagAt, literalsAt}
-use Rattle.saved.specs.Reading.{Res, fault, ok, onOk, orFault, lineTests, lineLength, lineLimits, lineSound, newNumber, lineAt, endTests, readLines, literalsOf, entriesOf}
-use Rattle.saved.proofs.Accepted.{test-passed, passed}
+use Rattle.saved.specs.Form.{Head, Line, numberOf, blockingOf, headsAt, tagAt}
+use Rattle.table.specs.Res.{Res, fault, ok, onOk}
+use Rattle.saved.specs.Reading.{lineTests, lineLength, lineLimits, lineSound, newNumber, lineAt, endTests, readLines, literalsOf, entriesOf}
+use Rattle.table.proofs.Answers.{test-none}
+use Rattle.saved.proofs.Accepted.{passed}
 use Rattle.saved.proofs.Digits.{drop-numbers}
 use Rattle.saved.proofs.Fields.{value-size}
-use Rattle.saved.proofs.Places.{mem-other}
-use Rattle.saved_read.specs.Inner.{headWith, newOn, blockOn, soundOn, valueTests, lineOr, testsOn, lineOn, pushedOn, countOn, partOf, Within, Clear, AllRead}
+use Rattle.saved_read.specs.Inner.{headWith, newOn, blockOn, soundOn, lineOr, testsOn, lineOn, pushedOn, countOn, partOf, Within, Clear, AllRead}
 use Rattle.saved_read.specs.declared.NextLine.{NextLine}
 use Rattle.saved_read.proofs.Found.{then-assoc, whole-within}
-use Rattle.saved_read.proofs.Numbers.{tail-is}
 
 -- the numbers met are those marked
 abbrev pub Marks : List ℕ → List ℕ → Type 0
@@ -86,7 +84,7 @@ kept heads n m total prev starts b at e =
     let p₂ = passed (eqb (tagOf b) (heads + 1)) (BadSaved at) _ (p₁ .1) in
     let p₃ = passed (lineLength base narrow heads (length (valueOf b))) (BadSaved at) _ (p₂ .1) in
     let p₄ = passed (lineLimits base narrow heads total x) (OverLimit at) _ (p₃ .1) in
-    let p₅ = test-passed (soundOn heads n m prev starts x) (BadSaved at) (p₄ .1) in
+    let p₅ = test-none (soundOn heads n m prev starts x) (BadSaved at) (p₄ .1) in
     let q₃ = simp and-true at (p₃ .0) in
     let q₄ = simp and-true at (p₄ .0) in
     let q₅ = simp and-true at p₅ in

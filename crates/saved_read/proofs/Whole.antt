@@ -1,9 +1,8 @@
 -- From the scan to the call: the header, the form that was read, its table and stack as they lie in the local arrays, and what is handed out. Assumes nothing.
-use mathlib.Core.Path.{_≡_, refl, sym, ap, ap₂, _∙_}
-use mathlib.Core.Bool.{Bool, true, false}
-use mathlib.Core.List.{List, [], _∷_, _++_}
+use mathlib.Core.Path.{_≡_, refl, sym, ap, _∙_}
+use mathlib.Core.List.{List, [], _∷_}
 use mathlib.Core.Option.{Option, none, some}
-use Prim.Native.Nat.{ℕ, zero, suc, _+_, _-_, _*_, _≤_, _<_}
+use Prim.Native.Nat.{ℕ, zero, suc, _+_, _*_, _≤_, _<_}
 use native.Mathlib.Omega.{arith}
 use lib.Dec.{eqb, leb}
 use lib.ListN.{length, getD, take, drop, replicate}
@@ -11,30 +10,31 @@ use borrow.Author.Tests.{eqb-true, leb-true, le-leb, lt-leb}
 use Rattle.rules.specs.Clause.{Clause}
 use Rattle.rules.proofs.Logic.{and-true}
 use Rattle.table.specs.Limits.{base}
-use Rattle.table.specs.Table.{Table, table, offset}
-use Rattle.table.specs.Stack.{entries, words, lay}
-use Rattle.table.specs.Answer.{answered, paper, test, testAt, _then_}
+use Rattle.table.specs.Table.{Table, table}
+use Rattle.table.specs.Stack.{lay}
+use Rattle.table.specs.Answer.{answered, testAt}
 use Rattle.table.specs.declared.Refusal.{Refusal}
 use Rattle.table.specs.declared.Refusal.the-variants.{OverLimit, NoRoom, NotBlocking, BadSaved}
-use Rattle.table.proofs.Answers.{testAt-some, nowhere}
-use Rattle.table.proofs.Stacks.{length-entries}
+use Rattle.table.proofs.Answers.{testAt-some, nowhere, then-none, test-none}
+use Rattle.table.proofs.Stacks.{length-entries, words-entries}
 use Rattle.table.proofs.Soundness.{sound-of}
 use Rattle.stack.specs.Tests.{badEntry, unblockedEntry}
 use Rattle.stack.specs.Inner.{Passed}
-use Rattle.saved.specs.Field.{narrow, tagOf, lengthOf, wholeField}
+use Rattle.saved.specs.Field.{narrow, lengthOf}
 use Rattle.saved.specs.Form.{Head, Line, Form}
-use Rattle.saved.specs.Reading.{Res, fault, ok, onOk, headAt, headLimits, headTests, fieldTests, readLines, readForm, literalsOf, allLiterals, allOffsets, tableOf, stackOf}
+use Rattle.table.specs.Res.{Res, fault, onOk}
+use Rattle.saved.specs.Reading.{headAt, headLimits, headTests, fieldTests, readLines, readForm, literalsOf, allLiterals, allOffsets, tableOf, stackOf}
 use Rattle.saved.specs.Saved.{Loaded, loaded, orKept, accepted, unblocked, unpacked, reading}
-use Rattle.saved.proofs.Accepted.{both-none, passed, test-passed, field-passed}
-use Rattle.saved.proofs.Packed.{packed-offset}
+use Rattle.saved.proofs.Accepted.{passed, field-passed}
+use Rattle.saved.proofs.Packed.{packed-offset, length-offsets}
 use Rattle.saved.proofs.Sound.{read-sound, read-names}
 use Rattle.saved_read.specs.Restored.{restored}
 use Rattle.saved_read.specs.Inner.{headerOr, given, headerOf, headWith, partOf, AllRead, Remembered}
 use Rattle.saved_read.specs.declared.Restored.{Restored}
 use Rattle.saved_read.specs.declared.Header.{Header}
 use Rattle.saved_read.proofs.Found.{whole-within}
-use Rattle.saved_read.proofs.Numbers.{lay-front}
-use Rattle.saved_read.proofs.Rows.{length-offsets, literals-same, offsets-same, words-entries}
+use Rattle.table.proofs.Laying.{lay-front}
+use Rattle.saved_read.proofs.Rows.{literals-same, offsets-same}
 
 pub zeros : (n k : ℕ) → _≡_ {A = ℕ} (getD {A = ℕ} (replicate n 0) k 0) 0
 zeros zero k = refl
@@ -73,10 +73,10 @@ unfolding headerOf headLimits
 headed b n m t r e =
     let h = headAt base narrow b in
     let o = or-good (headTests base narrow b) n m t r (h .variables) (h .clauses) (h .literals) (h .removals) e in
-    let p₁ = both-none (fieldTests 1 b 0 (eqb (lengthOf b) 8)) _ (o .0) in
+    let p₁ = then-none (fieldTests 1 b 0 (eqb (lengthOf b) 8)) _ (o .0) in
     let p₂ = field-passed 1 b 0 (eqb (lengthOf b) 8) (p₁ .0) in
     let p₃ = passed (headLimits base narrow h) (OverLimit 0) _ (p₁ .1) in
-    let p₄ = leb-true (h .removals) (h .clauses) (test-passed (leb (h .removals) (h .clauses)) (BadSaved 0) (p₃ .1)) in
+    let p₄ = leb-true (h .removals) (h .clauses) (test-none (leb (h .removals) (h .clauses)) (BadSaved 0) (p₃ .1)) in
     let q = simp and-true at (p₃ .0) in
     let s = eqb-true (lengthOf b) 8 (p₂ .2) in
     let w = whole-within b 0 0 (p₂ .0) in

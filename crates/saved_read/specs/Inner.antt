@@ -1,7 +1,7 @@
 -- What the reader's inner functions answer, on arrays: fields, clauses beside the marks of those met, the scan and the table it leads to. Assumes nothing.
 use mathlib.Core.Path.{_≡_}
-use mathlib.Core.Bool.{Bool, not, _&&_, _||_, cond}
-use mathlib.Core.List.{List, [], _∷_, _++_}
+use mathlib.Core.Bool.{Bool, _&&_, _||_, cond}
+use mathlib.Core.List.{List, []}
 use mathlib.Core.Option.{Option, none, some}
 use Prim.Native.Nat.{ℕ, suc, _+_, _-_, _*_, _≤_, _<_}
 use lib.Dec.{eqb, leb, ltb}
@@ -16,8 +16,9 @@ use Rattle.table.specs.declared.Refusal.{Refusal}
 use Rattle.table.specs.declared.Refusal.the-variants.{OverLimit, BadSaved}
 use Rattle.saved.specs.Bytes.{numbersOf}
 use Rattle.saved.specs.Field.{narrow, tagOf, lengthOf, valueOf, wholeField}
-use Rattle.saved.specs.Form.{Head, Line, Form, numberOf, blockingOf, headsAt}
-use Rattle.saved.specs.Reading.{Res, fault, ok, headOf, headAt, headLimits, headTests, lineLength, lineLimits, readLines, readForm, literalsOf, entriesOf, stackOf}
+use Rattle.saved.specs.Form.{Head, Line, Form, numberOf, blockingOf}
+use Rattle.table.specs.Res.{fault, ok}
+use Rattle.saved.specs.Reading.{headOf, headAt, headLimits, headTests, lineLength, lineLimits, readLines, readForm, literalsOf, entriesOf, stackOf}
 use Rattle.saved_read.specs.declared.Value.{Value}
 use Rattle.saved_read.specs.declared.Value.the-variants.{Bad, At}
 use Rattle.saved_read.specs.declared.Header.{Header}

@@ -1,18 +1,16 @@
 -- Demand 1 for the writer: a refusal leaves the output as it came, and no second answer meets the contract. Assumes nothing.
-use mathlib.Core.Path.{_≡_, refl, sym, _∙_, ap}
+use mathlib.Core.Path.{_≡_, sym, _∙_, ap}
 use mathlib.Core.Bool.{true}
 use mathlib.Core.List.{List, [], _∷_}
-use mathlib.Core.Option.{Option, none, some}
 use Prim.Native.Nat.{ℕ}
 use lib.Dec.{leb}
 use lib.ListN.{length}
 use Rattle.table.specs.Limits.{base}
 use Rattle.table.specs.Table.{Table}
 use Rattle.table.specs.Stack.{entries}
-use Rattle.table.specs.Answer.{answered, refused, test, _then_, Outcome, outcome, decided}
-use Rattle.table.specs.declared.Refusal.{Refusal}
+use Rattle.table.specs.Answer.{refused, test, _then_, Outcome, outcome}
 use Rattle.table.specs.declared.Refusal.the-variants.{NoRoom}
-use Rattle.table.proofs.Answers.{paper-one-to-one, not-answered}
+use Rattle.table.proofs.Answers.{paper-one-to-one, not-answered, decided-keeps}
 use Rattle.stack.specs.Tests.{lentTests, blockingTests}
 use Rattle.saved.specs.Field.{narrow}
 use Rattle.saved.specs.Form.{encode}
@@ -21,12 +19,7 @@ use Rattle.saved_write.specs.Written.{written}
 use Rattle.saved_write.specs.declared.Written.{Written}
 use Rattle.saved_write.specs.declared.Written.the-variants.{Length, Refused}
 
--- a refusal keeps the buffer, whatever the tests and the outcome of a success
-decided-keeps : (o : Option Refusal) (cells new vs : List ℕ) (number place : ℕ)
-    → decided o cells (outcome (answered vs) new) .reply ≡ refused number place → decided o cells (outcome (answered vs) new) .cells ≡ cells
-decided-keeps none cells new vs n p h = cc
-decided-keeps (some r) cells new vs n p h = refl
-
+-- a refusal leaves the output as it came
 pub write-saved-keeps : (t : Table) (ws : List ℕ) (c : ℕ) (out : List ℕ) (number place : ℕ)
     → writing base narrow t ws c out .reply ≡ refused number place → writing base narrow t ws c out .cells ≡ out
 unfolding writing

@@ -7,16 +7,16 @@ use Prim.Native.Nat.{ℕ, zero, suc, _+_, _*_, _≤_, _<_}
 use native.Mathlib.Nat.{le-refl, le-trans}
 use native.Mathlib.Numerals.{add-one}
 use native.Mathlib.Omega.{arith}
-use borrow.Author.Tests.{lt-ltb, le-ltb, leb-true}
+use borrow.Author.Tests.{lt-ltb, le-ltb}
 use lib.ListN.{length, getD, length-append}
 use Rattle.rules.specs.Walk.{upto}
 use Rattle.rules.specs.Blocking.{literal}
 use Rattle.rules.specs.Book.{Live, Entry, all, after}
-use Rattle.rules.proofs.Logic.{and-true, by-eq}
+use Rattle.rules.proofs.Logic.{by-eq}
 use Rattle.table.specs.Limits.{base}
-use Rattle.table.specs.Table.{Table, offset, row, bookOf, soundClause, sound}
+use Rattle.table.specs.Table.{Table, offset, row, bookOf, sound}
 use Rattle.table.specs.Stack.{entryAt, entries}
-use Rattle.table.proofs.Soundness.{sound-of}
+use Rattle.table.proofs.Soundness.{sound-of, row-short}
 use Rattle.table.proofs.Stacks.{length-entries}
 use Rattle.index.specs.Index.{liveOf}
 use Rattle.index.proofs.Marks.{live-here, live-gone}
@@ -114,10 +114,6 @@ module _ (t : Table) (marks : List ℕ) (k : ℕ) where
   unfolding liveLine fieldsOf
   line-gone h = rw (live-gone marks k h)
 
-row-short : (t : Table) → sound base t ≡ true → (k : ℕ) → 1 ≤ k → k ≤ t .clauses → length (row t k) ≤ 1000
-unfolding soundClause
-row-short t s k l u = leb-true _ _ ((simp and-true at (sound-of t s .clause k l u)) .0 .0)
-
 module _ (t : Table) (s : sound base t ≡ true) (k : ℕ) (l : 1 ≤ k) (u : k ≤ t .clauses) {C : List ℕ} (e : C ≡ row t k) where
   pub live-written : (marks : List ℕ) → getD marks k 0 ≡ 1 → field 2 2 (k ∷ C) ≡ fieldsOf 2 (liveLine t (liveOf marks) k)
   live-written marks h = rw e (sym (line-here t marks k h))
@@ -127,7 +123,7 @@ module _ (t : Table) (s : sound base t ≡ true) (k : ℕ) (l : 1 ≤ k) (u : k 
   live-fits marks h room =
       let a = ap length (live-written marks h) in
       let b = length-field 2 2 (k ∷ C) in
-      let d : length C ≤ 1000 = rw e (row-short t s k l u) in
+      let d : length C ≤ 1000 = rw e (row-short t (sound-of t s) k l u) in
       (d, omega arith)
 
   pub removed-written : (x : ℕ) → field 2 3 (k ∷ x ∷ C) ≡ field 2 3 (removedLine t (k, x))
@@ -138,7 +134,7 @@ module _ (t : Table) (s : sound base t ≡ true) (k : ℕ) (l : 1 ≤ k) (u : k 
   removed-fits x room =
       let a = ap length (removed-written x) in
       let b = length-field 2 3 (k ∷ x ∷ C) in
-      let d : length C ≤ 1000 = rw e (row-short t s k l u) in
+      let d : length C ≤ 1000 = rw e (row-short t (sound-of t s) k l u) in
       (d, omega arith)
 
 -- the removed clauses, one more

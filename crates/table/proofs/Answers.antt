@@ -9,7 +9,7 @@ use Rattle.table.specs.declared.Refusal.{Refusal}
 use Rattle.table.specs.declared.Refusal.the-variants.{BadText, OverLimit, NoRoom, BadTable, BadStack, NotBlocking, BadName, BadValues, NotModel, BadSaved}
 use Rattle.table.specs.declared.Verdict.{Verdict}
 use Rattle.table.specs.declared.Verdict.the-variants.{Accepted, Refused}
-use Rattle.table.specs.Answer.{Reply, answered, refused, paper, verdict, asVerdict, test, testAt, _then_}
+use Rattle.table.specs.Answer.{Reply, answered, refused, paper, verdict, asVerdict, test, testAt, _then_, outcome, decided}
 
 -- the number and the place that are told of a refusal
 number : Reply → ℕ
@@ -90,3 +90,14 @@ tests-pass (some r) e h = cc
 pub tests-refuse : (o : Option Refusal) (r : Refusal) {v : Verdict} → v ≡ asVerdict o → v ≡ Refused r → o ≡ some r
 tests-refuse none r e h = cc
 tests-refuse (some q) r e h = cc
+
+-- a refusal keeps the buffer, whatever the tests and the outcome of a success
+pub decided-keeps : (o : Option Refusal) (cells new vs : List ℕ) (number place : ℕ)
+    → decided o cells (outcome (answered vs) new) .reply ≡ refused number place → decided o cells (outcome (answered vs) new) .cells ≡ cells
+decided-keeps none cells new vs number place h = cc
+decided-keeps (some r) cells new vs number place h = refl
+
+-- a success passed every test
+pub decided-passed : (o : Option Refusal) (cells new vs us : List ℕ) → decided o cells (outcome (answered vs) new) .reply ≡ answered us → o ≡ none
+decided-passed none cells new vs us h = refl
+decided-passed (some r) cells new vs us h = absurd (not-answered r us (sym h))

@@ -8,7 +8,7 @@ use native.Mathlib.Nat.{le-refl, le-trans}
 use native.Mathlib.Omega.{arith}
 use mir.Syntax.{w32, w64}
 use mir.Val.{Fits}
-use borrow.Author.Tests.{leb-true, le-leb, lt-leb, not-true}
+use borrow.Author.Tests.{eqb-true, leb-true, le-leb, lt-leb, not-true}
 use lib.ListN.{length, getD, take, length-take, length-drop}
 use lib.Seq.{getD-take, getD-drop}
 use Rattle.rules.specs.Walk.{every, everyTo}
@@ -23,6 +23,7 @@ use Rattle.table.specs.Inner.{Shape, endsSound}
 pub record Sound (t : Table) : Type 0 where
   pub variables : t .variables ≤ 2000
   pub clauses : t .clauses ≤ 4000
+  pub first : offset t 0 ≡ 0
   pub total : offset t (t .clauses) ≤ 16000
   pub shape : Shape t
   pub clause : (k : ℕ) → 1 ≤ k → k ≤ t .clauses → soundClause base (t .variables) (row t k) ≡ true
@@ -54,6 +55,7 @@ sound-of t h =
     record {
       variables = leb-true _ _ (q .0 .0 .0 .0 .0 .0 .0);
       clauses = leb-true _ _ (q .0 .0 .0 .0 .0 .0 .1);
+      first = eqb-true _ 0 (q .0 .0 .0 .0 .1);
       total = leb-true _ _ (q .0 .0 .1);
       shape = shape-of t (omega arith) (q .0 .0 .0 .1) (leb-true _ _ (q .0 .1));
       clause = λ k l u. everyTo-at (soundRow base t) (t .clauses) k (q .1) l u;
@@ -155,3 +157,8 @@ row-tested lim t k C e = rw e
 pub names-clause : (lim : Limits) (t : Table) (k : ℕ) → sound lim t ≡ true → 1 ≤ k → k ≤ t .clauses → names lim t k ≡ true
 unfolding names
 names-clause lim t k h l u = rw (h, le-leb 1 k l, le-leb k (t .clauses) u)
+
+-- a clause of a sound table has at most 1,000 literals
+pub row-short : (t : Table) → Sound t → (k : ℕ) → 1 ≤ k → k ≤ t .clauses → length (row t k) ≤ 1000
+unfolding soundClause
+row-short t s k l u = leb-true _ _ ((simp and-true at (s .clause k l u)) .0 .0)

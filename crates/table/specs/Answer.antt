@@ -1,8 +1,10 @@
 -- What a call answers, in document 01's numbers: values, or a refusal's number and place ('Refusal numbers'). Assumes nothing.
-use mathlib.Core.Bool.{Bool, true, false}
+use mathlib.Core.Bool.{Bool, true, false, _&&_}
 use mathlib.Core.List.{List, []}
 use mathlib.Core.Option.{Option, none, some}
 use Prim.Native.Nat.{ℕ, zero, suc}
+use lib.Dec.{eqb}
+use Rattle.rules.specs.Walk.{same}
 use Rattle.table.specs.declared.Refusal.{Refusal}
 use Rattle.table.specs.declared.Refusal.the-variants.{BadText, OverLimit, NoRoom, BadTable, BadStack, NotBlocking, BadName, BadValues, NotModel, BadSaved}
 use Rattle.table.specs.declared.Verdict.{Verdict}
@@ -11,6 +13,13 @@ use Rattle.table.specs.declared.Verdict.the-variants.{Accepted, Refused}
 pub data Reply : Type 0 where
   answered : List ℕ → Reply
   refused : ℕ → ℕ → Reply
+
+-- the two replies are equal
+unfoldable pub sameReply : Reply → Reply → Bool
+sameReply (answered vs) (answered ws) = same vs ws
+sameReply (answered vs) (refused n p) = false
+sameReply (refused n p) (answered ws) = false
+sameReply (refused n p) (refused m q) = eqb n m && eqb p q
 
 -- the number and the place of each refusal
 abbrev pub paper : Refusal → Reply

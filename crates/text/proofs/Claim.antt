@@ -10,7 +10,8 @@ use Rattle.text.specs.Lines.{lineEnd, prologue}
 use Rattle.text.specs.Problem.{problem}
 use Rattle.text.specs.Clauses.{clause, clauses}
 use Rattle.text.specs.Text.{tableOf, reading}
-use Rattle.text.specs.Examples.{sameReply, sameOutcome, small, passes, all-pass, examples}
+use Rattle.table.specs.Answer.{sameReply}
+use Rattle.text.specs.Examples.{sameOutcome, small, passes, all-pass, examples}
 
 pub every-example-passes : all-pass examples ≡ true
 unfolding any mem lay scan digits natural number lineEnd prologue problem clause clauses tableOf reading sameReply sameOutcome small passes all-pass examples

@@ -20,7 +20,7 @@ use Rattle.words.specs.Tokens.{Token}
 use Rattle.words.specs.Numbers.{number}
 use Rattle.text.specs.declared.Step.{Step}
 use Rattle.text.specs.declared.Step.the-variants.{Wrong, Ends, Repeated, Kept, Full}
-use Rattle.text.specs.Res.{ok}
+use Rattle.table.specs.Res.{ok}
 use Rattle.text.specs.Clauses.{codeOf, stepOf, clause}
 use Rattle.text.proofs.Codes.{clause-on, clause-none, Fresh, kept-fresh}
 use Rattle.text.proofs.Results.{never, ok-same}

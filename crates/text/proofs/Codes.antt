@@ -18,7 +18,7 @@ use Rattle.words.specs.Numbers.{number}
 use Rattle.words.specs.Inner.{capped}
 use Rattle.text.specs.declared.Step.{Step}
 use Rattle.text.specs.declared.Step.the-variants.{Wrong, Ends, Repeated, Kept, Full}
-use Rattle.text.specs.Res.{Res, fault, ok}
+use Rattle.table.specs.Res.{Res, fault, ok}
 use Rattle.text.specs.Clauses.{codeOf, stepOf, clause}
 
 module _ (n v : ℕ) where

@@ -13,7 +13,7 @@ use Rattle.table.specs.Limits.{Limits}
 use Rattle.table.specs.Stack.{lay}
 use Rattle.words.specs.Tokens.{Token}
 use Rattle.text.specs.declared.NextClause.{NextClause}
-use Rattle.text.specs.Res.{fault, ok}
+use Rattle.table.specs.Res.{fault, ok}
 use Rattle.text.specs.Clauses.{clause, clauses}
 use Rattle.text.specs.Inner.{ReadClause, AddedClause}
 use Rattle.text.proofs.Results.{never}

@@ -1,20 +1,22 @@
--- The literals and offsets that the clauses lay down are those of a sound table, also with more cells behind them. Assumes nothing.
+-- The literals and offsets that the clauses lay down are those of a sound table. Assumes nothing.
 use mathlib.Core.Path.{_≡_, refl, _∙_}
-use mathlib.Core.Bool.{Bool, true}
+use mathlib.Core.Bool.{true}
 use mathlib.Core.List.{List, [], _∷_, _++_}
-use Prim.Native.Nat.{ℕ, zero, suc, _+_, _-_, _≤_, _<_, min}
+use Prim.Native.Nat.{ℕ, zero, suc, _+_, _-_, _≤_, min}
 use native.Mathlib.Omega.{arith}
-use lib.ListN.{length, drop, length-append, length-drop, List·getD-append}
-use lib.Seq.{take-append-le, drop-append-le, drop-at, take-all, getD-at}
+use lib.ListN.{length, length-append}
+use lib.Seq.{drop-at, take-all, getD-at}
 use borrow.Author.Tests.{le-leb, eq-eqb}
 use Rattle.rules.specs.Walk.{everyTo}
 use Rattle.rules.specs.Clause.{Clause}
 use Rattle.rules.proofs.Logic.{by-eq, and-true}
+use Rattle.rules.proofs.Walks.{everyTo-all}
 use Rattle.table.specs.Limits.{Limits}
 use Rattle.table.specs.Table.{Table, table, offset, row, soundClause, rises, soundRow, sound}
 use Rattle.table.specs.Inner.{Shape}
+use Rattle.table.proofs.Longer.{longer, offset-longer, row-longer}
 use Rattle.words.specs.Tokens.{Token}
-use Rattle.text.specs.Res.{ok}
+use Rattle.table.specs.Res.{ok}
 use Rattle.text.specs.Clauses.{clause, clauses}
 use Rattle.text.proofs.Results.{never, ok-same, both}
 use Rattle.text.proofs.Clean.{Clean, clause-clean, clean-sound}
@@ -28,30 +30,6 @@ pub record Laid (lim : Limits) (t : Table) : Type 0 where
   pub shape : Shape t
   pub clean : (k : ℕ) → 1 ≤ k → k ≤ t .clauses → soundClause lim (t .variables) (row t k) ≡ true
 
--- more cells behind the literals and the offsets change no clause
-module _ (t : Table) (lits offs : List ℕ) (m : ℕ) where
-  abbrev longer : Table
-  longer = table (t .variables) m (t .lits ++ lits) (t .offs ++ offs)
-
-  offset-longer : (k : ℕ) → k < length (t .offs) → offset longer k ≡ offset t k
-  unfolding offset
-  offset-longer k h = List·getD-append (t .offs) offs 0 k h
-
-  row-longer : (k : ℕ) → Shape t → 1 ≤ k → k ≤ t .clauses → row longer k ≡ row t k
-  unfolding row
-  row-longer k s l u =
-      let e : offset longer k ≡ offset t k = offset-longer k (omega (arith, s .there)) in
-      let f : offset longer (k - 1) ≡ offset t (k - 1) = offset-longer (k - 1) (omega (arith, s .there)) in
-      let a : offset t (k - 1) ≤ length (t .lits) = s .inside (k - 1) (omega arith) in
-      let b : offset t k ≤ length (t .lits) = s .inside k u in
-      let c : offset t k - offset t (k - 1) ≤ length (drop (offset t (k - 1)) (t .lits)) = simp length-drop (omega arith) in
-      rw (e, f, drop-append-le (offset t (k - 1)) (t .lits) lits a, take-append-le (offset t k - offset t (k - 1)) (drop (offset t (k - 1)) (t .lits)) lits c)
-
-everyTo-all : (p : ℕ → Bool) (n : ℕ) → ((k : ℕ) → 1 ≤ k → k ≤ n → p k ≡ true) → everyTo p n ≡ true
-unfolding everyTo
-everyTo-all p zero h = refl
-everyTo-all p (suc n) h = rw (everyTo-all p n (λ k l u. h k l (omega arith)), h (suc n) (omega arith) (omega arith))
-
 rises-up : (t : Table) (k : ℕ) → offset t (k - 1) ≤ offset t k → rises t k ≡ true
 unfolding rises
 rises-up t k h = le-leb _ _ h
@@ -60,21 +38,16 @@ row-sound : (lim : Limits) (t : Table) (k : ℕ) → soundClause lim (t .variabl
 unfolding soundRow
 row-sound lim t k h = h
 
-pub laid-sound : (lim : Limits) (t : Table) (lits offs : List ℕ) → t .variables ≤ lim .variables → t .clauses ≤ lim .clauses → Laid lim t
-    → sound lim (longer t lits offs (t .clauses)) ≡ true
+pub laid-sound : (lim : Limits) (t : Table) → t .variables ≤ lim .variables → t .clauses ≤ lim .clauses → Laid lim t → sound lim t ≡ true
 unfolding sound
-laid-sound lim t lits offs v c h =
+laid-sound lim t v c h =
     let m = t .clauses in
-    let s : Table = longer t lits offs m in
-    let same : (k : ℕ) → k ≤ m → offset s k ≡ offset t k = λ k u. offset-longer t lits offs m k (omega (arith, h .many)) in
-    let many : m + 1 ≤ length (t .offs ++ offs) = simp length-append (omega (arith, h .many)) in
-    let first : offset s 0 ≡ 0 = same 0 (omega arith) ∙ h .first in
-    let last : offset s m ≡ length (t .lits) = same m (omega arith) ∙ h .last in
-    let all : offset s m ≤ lim .literals = rw last (h .total) in
-    let inside : offset s m ≤ length (t .lits ++ lits) = rw last (simp length-append (omega arith)) in
-    let rising : everyTo (rises s) m ≡ true = everyTo-all (rises s) m (λ k l u. rises-up s k (rw (same (k - 1) (omega arith), same k u) (h .shape .rising k l u))) in
-    let rows : everyTo (soundRow lim s) m ≡ true = everyTo-all (soundRow lim s) m (λ k l u. row-sound lim s k (rw (row-longer t lits offs m k (h .shape) l u) (h .clean k l u))) in
-    simp and-true (((((((le-leb _ _ v, le-leb _ _ c), le-leb _ _ many), eq-eqb _ _ first), rising), le-leb _ _ all), le-leb _ _ inside), rows)
+    let many : m + 1 ≤ length (t .offs) = omega (arith, h .many) in
+    let total : offset t m ≤ lim .literals = rw (h .last) (h .total) in
+    let end : offset t m ≤ length (t .lits) = h .shape .inside m (omega arith) in
+    let rising : everyTo (rises t) m ≡ true = everyTo-all (rises t) m (λ k l u. rises-up t k (h .shape .rising k l u)) in
+    let rows : everyTo (soundRow lim t) m ≡ true = everyTo-all (soundRow lim t) m (λ k l u. row-sound lim t k (h .clean k l u)) in
+    simp and-true (((((((le-leb _ _ v, le-leb _ _ c), le-leb _ _ many), eq-eqb _ _ (h .first)), rising), le-leb _ _ total), le-leb _ _ end), rows)
 
 -- one more clause
 module _ (lim : Limits) (t : Table) (C : Clause) where

@@ -8,8 +8,8 @@ use Rattle.table.specs.Table.{Table}
 use Rattle.table.proofs.Answers.{paper-one-to-one, not-answered}
 use Rattle.text.specs.declared.Read.{Read}
 use Rattle.text.specs.declared.Read.the-variants.{Table as TableRead, Refused}
-use Rattle.text.specs.Res.{Res, fault, ok}
-use Rattle.text.specs.Text.{TableOutcome, tableOutcome, readReply, tableOf, readerTests, tested, left, reading}
+use Rattle.table.specs.Res.{Res, fault, ok, orFault}
+use Rattle.text.specs.Text.{TableOutcome, tableOutcome, readReply, tableOf, readerTests, left, reading}
 
 -- the answers are told one to one
 pub read-one-to-one : (a b : Read) → readReply a ≡ readReply b → a ≡ b
@@ -32,4 +32,4 @@ left-keeps (ok t) lits offs n p h = (cc, cc)
 pub read-text-keeps : (s lits offs : List ℕ) (n p : ℕ) → reading base s lits offs .reply ≡ refused n p
     → (reading base s lits offs .lits ≡ lits) × (reading base s lits offs .offs ≡ offs)
 unfolding reading
-read-text-keeps s lits offs n p h = left-keeps (tested (readerTests base s lits offs) (tableOf base s)) lits offs n p h
+read-text-keeps s lits offs n p h = left-keeps (orFault (readerTests base s lits offs) (tableOf base s)) lits offs n p h

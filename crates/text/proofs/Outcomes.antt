@@ -13,7 +13,7 @@ use Rattle.table.specs.Table.{Table}
 use Rattle.table.specs.Stack.{lay}
 use Rattle.words.specs.Bytes.{begins}
 use Rattle.words.specs.Tokens.{tokensFrom}
-use Rattle.text.specs.Res.{Res, fault, ok, _>>=_}
+use Rattle.table.specs.Res.{Res, fault, ok, _>>=_}
 use Rattle.text.specs.Lines.{prologue, lineEnd}
 use Rattle.text.specs.Problem.{fromP, problem}
 use Rattle.text.specs.Text.{TableOutcome, tableOutcome, asTable, tableOf, left, reading}

@@ -3,7 +3,7 @@ use mathlib.Core.Path.{_≡_, refl}
 use Prim.Native.Nat.{ℕ}
 use native.Mathlib.Omega.{arith}
 use Rattle.table.specs.declared.Refusal.{Refusal}
-use Rattle.text.specs.Res.{Res, fault, ok, _>>=_}
+use Rattle.table.specs.Res.{Res, fault, ok, _>>=_}
 
 pub never : {A : Type 0} (r : Res A) (a : A) (x : Refusal) → r ≡ ok a → r ≡ fault x → ⊥
 never r a x e f = let z : _≡_ {A = ℕ} 0 1 = cc in omega arith

@@ -20,13 +20,14 @@ use Rattle.words.specs.declared.Number.the-variants.{Bad, Plain, Negative}
 use Rattle.words.specs.Bytes.{begins}
 use Rattle.words.specs.Tokens.{Token, tokensFrom}
 use Rattle.words.specs.Numbers.{number}
-use Rattle.text.specs.Res.{Res, fault, ok}
+use Rattle.table.specs.Res.{Res, fault, ok, orFault}
 use Rattle.text.specs.Lines.{prologue, lineEnd}
 use Rattle.text.specs.Problem.{keyword, bounded, count, noMore, fromC, fromV, fromCnf, fromP, problem}
 use Rattle.text.specs.Clauses.{clauses}
-use Rattle.text.specs.Text.{TableOutcome, tableOutcome, asTable, tableOf, readerTests, tested, left, reading}
+use Rattle.text.specs.Text.{TableOutcome, tableOutcome, asTable, tableOf, readerTests, left, reading}
 use Rattle.text.proofs.Results.{never, ok-same, both}
 use Rattle.text.proofs.Outcomes.{problem-yes, problem-no}
+use Rattle.table.proofs.Longer.{longer-sound}
 use Rattle.text.proofs.Laid.{Laid, laid-sound, clauses-laid}
 
 -- a count that is read is within its limit
@@ -121,9 +122,9 @@ left-sound lim (ok t) lits offs h n m l o e =
     let v : t .variables ≡ n = cc in
     let c : t .clauses ≡ m = cc in
     rw (← v, ← c, ← ap (λ (x : TableOutcome). x .lits) e, ← ap (λ (x : TableOutcome). x .offs) e)
-    (laid-sound lim t _ _ (says .variables) (says .clauses) (says .laid))
+    (longer-sound lim t _ _ (laid-sound lim t (says .variables) (says .clauses) (says .laid)))
 
-tested-says : (lim : Limits) (s : List ℕ) (o : Option Refusal) (t : Table) → tested o (tableOf lim s) ≡ ok t → Says lim t
+tested-says : (lim : Limits) (s : List ℕ) (o : Option Refusal) (t : Table) → orFault o (tableOf lim s) ≡ ok t → Says lim t
 tested-says lim s none t e = text-says lim s t e
 tested-says lim s (some r) t e = absurd (never _ t r e refl)
 
@@ -132,7 +133,7 @@ pub reading-sound : (lim : Limits) (s lits offs : List ℕ) (n m : ℕ) (l o : L
     → reading lim s lits offs ≡ tableOutcome (answered (n ∷ m ∷ [])) l o → sound lim (table n m l o) ≡ true
 unfolding reading
 reading-sound lim s lits offs n m l o e =
-    left-sound lim (tested (readerTests lim s lits offs) (tableOf lim s)) lits offs (tested-says lim s (readerTests lim s lits offs)) n m l o e
+    left-sound lim (orFault (readerTests lim s lits offs) (tableOf lim s)) lits offs (tested-says lim s (readerTests lim s lits offs)) n m l o e
 
 pub read-text-sound : (s lits offs : List ℕ) (n m : ℕ) (l o : List ℕ)
     → reading base s lits offs ≡ tableOutcome (answered (n ∷ m ∷ [])) l o → sound base (table n m l o) ≡ true

@@ -9,11 +9,11 @@ use borrow.Author.Tests.{le-leb, lt-leb, leb-true, leb-false}
 use Rattle.table.specs.declared.Refusal.the-variants.{BadText, OverLimit}
 use Rattle.words.specs.declared.Number.{Number}
 use Rattle.words.specs.declared.Number.the-variants.{Bad, Plain, Negative}
-use Rattle.words.specs.Bytes.{same}
+use Rattle.rules.specs.Walk.{same}
 use Rattle.words.specs.Tokens.{Token}
 use Rattle.words.specs.Numbers.{number}
 use Rattle.words.specs.Inner.{capped}
-use Rattle.text.specs.Res.{fault, ok, _>>=_}
+use Rattle.table.specs.Res.{fault, ok, _>>=_}
 use Rattle.text.specs.Problem.{keyword, bounded, count}
 
 -- the cap is above every limit

@@ -13,7 +13,7 @@ use Rattle.words.specs.Tokens.{Token}
 use Rattle.words.specs.Numbers.{number}
 use Rattle.text.specs.declared.Step.{Step}
 use Rattle.text.specs.declared.Step.the-variants.{Wrong, Ends, Repeated, Kept, Full}
-use Rattle.text.specs.Res.{Res, fault, ok, _>>=_}
+use Rattle.table.specs.Res.{Res, fault, ok, _>>=_}
 
 -- The code of a literal ('Variable v is coded 2v, its negation 2v+1'), 0 for the 0 that ends a clause, and 1 where 'the text breaks the rules above, or a
 -- literal's variable is above V', which is n.

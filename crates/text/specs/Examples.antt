@@ -1,18 +1,11 @@
 -- Examples of document 01's text, one or more for each of its rules and for each refusal: a text, and what it must come to. Assumes nothing.
-use mathlib.Core.Bool.{Bool, true, false, _&&_}
+use mathlib.Core.Bool.{Bool, true, _&&_}
 use mathlib.Core.List.{List, [], _∷_}
 use Prim.Native.Nat.{ℕ}
-use lib.Dec.{eqb}
+use Rattle.rules.specs.Walk.{same}
 use Rattle.table.specs.Limits.{Limits, base}
-use Rattle.table.specs.Answer.{Reply, answered, refused}
-use Rattle.words.specs.Bytes.{same}
+use Rattle.table.specs.Answer.{answered, refused, sameReply}
 use Rattle.text.specs.Text.{TableOutcome, tableOutcome, tableOf, left, reading}
-
-unfoldable pub sameReply : Reply → Reply → Bool
-sameReply (answered vs) (answered ws) = same vs ws
-sameReply (answered vs) (refused n p) = false
-sameReply (refused n p) (answered ws) = false
-sameReply (refused n p) (refused m q) = eqb n m && eqb p q
 
 unfoldable pub sameOutcome : TableOutcome → TableOutcome → Bool
 sameOutcome o e = sameReply (o .reply) (e .reply) && same (o .lits) (e .lits) && same (o .offs) (e .offs)

@@ -18,7 +18,7 @@ use Rattle.text.specs.declared.NextCount.{NextCount}
 use Rattle.text.specs.declared.NextCount.the-variants as NextCount
 use Rattle.text.specs.declared.Counts.{Counts}
 use Rattle.text.specs.declared.Counts.the-variants as Counts
-use Rattle.text.specs.Res.{Res, fault, ok}
+use Rattle.table.specs.Res.{Res, fault, ok}
 use Rattle.text.specs.Lines.{prologue}
 use Rattle.text.specs.Problem.{keyword, count}
 use Rattle.text.specs.Clauses.{clause, clauses}

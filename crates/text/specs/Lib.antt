@@ -1,4 +1,3 @@
-pub mod Res
 pub mod Lines
 pub mod Problem
 pub mod Clauses

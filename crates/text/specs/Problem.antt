@@ -8,10 +8,11 @@ use Rattle.table.specs.declared.Refusal.the-variants.{BadText, OverLimit}
 use Rattle.table.specs.Limits.{Limits}
 use Rattle.words.specs.declared.Number.{Number}
 use Rattle.words.specs.declared.Number.the-variants.{Bad, Plain, Negative}
-use Rattle.words.specs.Bytes.{begins, same}
+use Rattle.rules.specs.Walk.{same}
+use Rattle.words.specs.Bytes.{begins}
 use Rattle.words.specs.Tokens.{Token, tokensFrom}
 use Rattle.words.specs.Numbers.{number}
-use Rattle.text.specs.Res.{Res, fault, ok, _>>=_}
+use Rattle.table.specs.Res.{Res, fault, ok, _>>=_}
 
 -- A keyword, and then the other tokens. 'A missing token's point is after the bytes that may precede it': in a line the blanks, so that it is its end.
 abbrev pub keyword : List ℕ → ℕ → List Token → Res (List Token)

@@ -2,7 +2,7 @@
 -- Assumes nothing.
 use mathlib.Core.Bool.{false}
 use mathlib.Core.List.{List, [], _∷_}
-use mathlib.Core.Option.{Option, none, some}
+use mathlib.Core.Option.{Option}
 use Prim.Native.Nat.{ℕ, _+_}
 use lib.Dec.{leb}
 use lib.ListN.{length, drop}
@@ -15,7 +15,7 @@ use Rattle.table.specs.Answer.{Reply, answered, paper, test, _then_}
 use Rattle.words.specs.Tokens.{tokensFrom}
 use Rattle.text.specs.declared.Read.{Read}
 use Rattle.text.specs.declared.Read.the-variants.{Table as TableRead, Refused}
-use Rattle.text.specs.Res.{Res, fault, ok, _>>=_}
+use Rattle.table.specs.Res.{Res, fault, ok, _>>=_, orFault}
 use Rattle.text.specs.Lines.{prologue, lineEnd}
 use Rattle.text.specs.Problem.{problem}
 use Rattle.text.specs.Clauses.{clauses}
@@ -54,11 +54,6 @@ readerTests lim s lits offs =
     then test (leb (lim .clauses + 1) (length offs)) NoRoom
     then test (leb (length s) (lim .textBytes)) (OverLimit 0)
 
--- the reading, unless a test refuses
-abbrev pub tested : Option Refusal → Res Table → Res Table
-tested none t = t
-tested (some r) t = fault r
-
 -- 'Every refusal gives its number and place and changes no lent byte or word. A success changes only the part that carries the answer.'
 abbrev pub left : Res Table → List ℕ → List ℕ → TableOutcome
 left (fault r) lits offs = tableOutcome (paper r) lits offs
@@ -66,4 +61,4 @@ left (ok t) lits offs = tableOutcome (answered (t .variables ∷ t .clauses ∷ 
 
 -- the text reader
 unfoldable pub reading : Limits → List ℕ → List ℕ → List ℕ → TableOutcome
-reading lim s lits offs = left (tested (readerTests lim s lits offs) (tableOf lim s)) lits offs
+reading lim s lits offs = left (orFault (readerTests lim s lits offs) (tableOf lim s)) lits offs

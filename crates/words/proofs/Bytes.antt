@@ -9,7 +9,8 @@ use lib.Dec.{eqb}
 use lib.ListN.{length, drop, getD, drop-of-length-le, length-drop}
 use lib.Seq.{drop-cons, take-suc, getD-drop}
 use borrow.Author.Tests.{eq-eqb, ne-eqb}
-use Rattle.words.specs.Bytes.{begins, same}
+use Rattle.rules.specs.Walk.{same}
+use Rattle.words.specs.Bytes.{begins}
 use Rattle.words.specs.Inner.{part}
 
 -- a list from k on, at a k below its length

@@ -1,5 +1,5 @@
 -- The bytes of a text, by what they are to its reader (document 01, 'The text'). Assumes nothing.
-use mathlib.Core.Bool.{Bool, true, false, cond}
+use mathlib.Core.Bool.{Bool, false, cond}
 use mathlib.Core.List.{List, [], _∷_}
 use Prim.Native.Nat.{ℕ, _-_}
 use lib.Dec.{leb, eqb}
@@ -22,10 +22,3 @@ classOf b =
 abbrev pub begins : ℕ → List ℕ → Bool
 begins x [] = false
 begins x (b ∷ bs) = eqb b x
-
--- the bytes are the same
-abbrev pub same : List ℕ → List ℕ → Bool
-same [] [] = true
-same [] (y ∷ ys) = false
-same (x ∷ xs) [] = false
-same (x ∷ xs) (y ∷ ys) = elim (eqb x y) [ true ↦ same xs ys | false ↦ false ]

@@ -2,7 +2,8 @@
 ghost use mathlib.Core.Path.{_≡_};
 ghost use Prim.Native.Nat.{_≤_, _<_, min};
 ghost use lib.ListN.{length, drop, getD};
-ghost use Rattle.words.specs.Bytes.{classOf, begins, same};
+ghost use Rattle.rules.specs.Walk.{same};
+ghost use Rattle.words.specs.Bytes.{classOf, begins};
 ghost use Rattle.words.specs.Tokens.{isGap};
 ghost use Rattle.words.specs.Numbers.{digitOf, digits, natural, withMinus, number};
 ghost use Rattle.words.specs.Inner.{Begins, Skipped, Ended, Next, capped};

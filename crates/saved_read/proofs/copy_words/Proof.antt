@@ -1,13 +1,10 @@
-use mathlib.Core.Path.{_≡_, refl, sym, ap, ap₂, _∙_}
-use mathlib.Core.List.{List, [], _∷_, _++_}
-use Prim.Native.Nat.{ℕ, suc, _+_, _-_, _*_, _/_, _%_, _≤_, _<_}
+use mathlib.Core.Path.{_≡_, refl}
+use Prim.Native.Nat.{_-_, _≤_, _<_}
 use native.Mathlib.Omega.{arith}
-use lib.ListN.{length, getD, take, drop}
-use borrow.Author.Tests.{eq-eqb, ne-eqb, le-leb, lt-leb, lt-ltb, le-ltb, not-true}
-use Rattle.rules.proofs.Logic.{not-false}
+use lib.ListN.{length, take}
 use Rattle.table.specs.Stack.{lay}
 use lib.ListN.{length-set}
-use Rattle.saved_read.proofs.Numbers.{lay-none, lay-more, lay-done}
+use Rattle.table.proofs.Laying.{lay-none, lay-more, lay-done}
 use borrow.Author.Needs.{needs}
 use Rattle.saved_read.proofs.copy_words.Statement.{statement}
 use Rattle.saved_read.proofs.copy_words.Tie as tie

@@ -1,15 +1,14 @@
-use mathlib.Core.Path.{subst}
 use lib.ListN.{set}
-use mathlib.Core.Path.{_≡_, refl, sym, ap, ap₂, _∙_}
-use mathlib.Core.List.{List, [], _∷_, _++_}
-use Prim.Native.Nat.{ℕ, suc, _+_, _-_, _*_, _/_, _%_, _≤_, _<_}
+use mathlib.Core.Path.{_≡_, refl, ap, _∙_}
+use Prim.Native.Nat.{ℕ, _+_, _-_, _≤_}
 use native.Mathlib.Omega.{arith}
-use lib.ListN.{length, getD, take, drop, replicate, length-drop, length-take, length-set, length-replicate}
-use lib.Seq.{length-take-le}
+use lib.ListN.{length, length-drop, length-take, length-set}
 use Rattle.table.specs.Stack.{lay}
 use Rattle.saved.specs.Reading.{allLiterals, allOffsets}
 use Rattle.saved_read.specs.Inner.{partOf}
-use Rattle.saved_read.proofs.Rows.{length-more, length-most, length-offsets, literals-start, literals-none, offsets-begin, literals-more, offsets-more, lay-over}
+use Rattle.table.proofs.Laying.{lay-over}
+use Rattle.saved.proofs.Packed.{length-offsets}
+use Rattle.saved_read.proofs.Rows.{length-more, length-most, literals-start, literals-none, offsets-begin, literals-more, offsets-more}
 use borrow.Author.Needs.{needs}
 use Rattle.saved_read.proofs.fill_rows.Statement.{statement}
 use Rattle.saved_read.proofs.fill_rows.Tie as tie

@@ -1,10 +1,6 @@
-use mathlib.Core.Path.{subst}
-use lib.ListN.{set}
-use mathlib.Core.Path.{_≡_, refl, sym, ap, ap₂, _∙_}
-use mathlib.Core.List.{List, [], _∷_, _++_}
-use Prim.Native.Nat.{ℕ, suc, _+_, _-_, _*_, _/_, _%_, _≤_, _<_}
+use mathlib.Core.Path.{sym}
+use Prim.Native.Nat.{_*_}
 use native.Mathlib.Omega.{arith}
-use lib.ListN.{length, getD, take, drop, replicate, length-drop, length-take, length-set, length-replicate}
 use lib.Seq.{length-take-le}
 use Rattle.table.specs.Table.{table}
 use Rattle.saved_read.proofs.Whole.{handed-refused, handed-out}

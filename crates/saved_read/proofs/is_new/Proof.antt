@@ -1,10 +1,4 @@
-use mathlib.Core.Path.{_≡_, refl, sym, ap, ap₂, _∙_}
-use mathlib.Core.List.{List, [], _∷_, _++_}
-use Prim.Native.Nat.{ℕ, suc, _+_, _-_, _*_, _/_, _%_, _≤_, _<_}
-use native.Mathlib.Omega.{arith}
-use lib.ListN.{length, getD, take, drop}
-use borrow.Author.Tests.{eq-eqb, ne-eqb, le-leb, lt-leb, lt-ltb, le-ltb, not-true}
-use Rattle.rules.proofs.Logic.{not-false}
+use borrow.Author.Tests.{eq-eqb, ne-eqb}
 use Rattle.saved_read.specs.Inner.{newOn}
 use borrow.Author.Needs.{needs}
 use Rattle.saved_read.proofs.is_new.Statement.{statement}

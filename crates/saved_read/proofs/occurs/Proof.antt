@@ -1,16 +1,10 @@
-use mathlib.Core.Path.{_≡_, refl, sym, ap, ap₂, _∙_}
-use mathlib.Core.List.{List, [], _∷_, _++_}
-use Prim.Native.Nat.{ℕ, suc, _+_, _-_, _*_, _/_, _%_, _≤_, _<_}
-use native.Mathlib.Omega.{arith}
-use lib.ListN.{length, getD, take, drop}
-use borrow.Author.Tests.{eq-eqb, ne-eqb, le-leb, lt-leb, lt-ltb, le-ltb, not-true}
-use Rattle.rules.proofs.Logic.{not-false}
-use Rattle.rules.specs.Walk.{any, every}
+use mathlib.Core.Path.{_≡_, refl, sym, ap, _∙_}
+use lib.ListN.{length}
+use Rattle.rules.specs.Walk.{any}
 use Rattle.rules.specs.Clause.{mem}
-use Rattle.table.specs.Table.{coded, distinct}
 use Rattle.saved.specs.Bytes.{numbersOf}
-use Rattle.saved.proofs.Places.{mem-other}
-use Rattle.saved_read.proofs.Numbers.{numbers-next, numbers-end, mem-first, coded-low, coded-high, coded-past, once-again, once-past}
+use Rattle.rules.proofs.Members.{mem-other}
+use Rattle.saved_read.proofs.Numbers.{numbers-next, numbers-end, mem-first}
 use borrow.Author.Needs.{needs}
 use Rattle.saved_read.proofs.occurs.Statement.{statement}
 use Rattle.saved_read.proofs.occurs.Tie as tie

@@ -1,11 +1,7 @@
 use mathlib.Core.Path.{subst}
-use lib.ListN.{set}
-use mathlib.Core.Path.{_≡_, refl, sym, ap, ap₂, _∙_}
-use mathlib.Core.List.{List, [], _∷_, _++_}
-use Prim.Native.Nat.{ℕ, suc, _+_, _-_, _*_, _/_, _%_, _≤_, _<_}
+use mathlib.Core.Path.{sym, _∙_}
 use native.Mathlib.Omega.{arith}
-use lib.ListN.{length, getD, take, drop, replicate, length-drop, length-take, length-set, length-replicate}
-use lib.Seq.{length-take-le}
+use lib.ListN.{length-replicate}
 use Rattle.saved_read.specs.Inner.{Scanned}
 use Rattle.saved_read.proofs.Whole.{zeros, headed, head-refused, lines-refused, remembered, no-lits, no-offs, no-stack, rooms, form-refused}
 use borrow.Author.Needs.{needs}

@@ -1,16 +1,9 @@
-use mathlib.Core.Path.{subst}
-use lib.ListN.{set}
 use Rattle.saved_read.proofs.Whole.{front-rows, front-ends, total-fits, passed-tests, handed}
-use mathlib.Core.Path.{_≡_, refl, sym, ap, ap₂, _∙_}
-use mathlib.Core.List.{List, [], _∷_, _++_}
-use Prim.Native.Nat.{ℕ, suc, _+_, _-_, _*_, _/_, _%_, _≤_, _<_}
+use mathlib.Core.Path.{sym, ap, _∙_}
 use native.Mathlib.Omega.{arith}
-use lib.ListN.{length, getD, take, drop, replicate, length-drop, length-take, length-set, length-replicate}
-use lib.Seq.{length-take-le}
-use Rattle.saved.specs.Reading.{allLiterals, allOffsets}
+use lib.ListN.{length, length-replicate}
 use Rattle.saved_read.specs.Inner.{partOf}
-use Rattle.saved_read.proofs.Numbers.{lay-front}
-use Rattle.saved_read.proofs.Rows.{length-offsets}
+use Rattle.saved.proofs.Packed.{length-offsets}
 use Rattle.saved_read.proofs.Whole.{total-fits, passed-tests, handed}
 use borrow.Author.Needs.{needs}
 use Rattle.saved_read.proofs.unpack.Statement.{statement}

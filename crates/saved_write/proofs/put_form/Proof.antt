@@ -10,7 +10,8 @@ use Rattle.index.specs.Index.{liveOf}
 use Rattle.saved.specs.Field.{endTag, field}
 use Rattle.saved.proofs.Lengths.{length-field}
 use Rattle.saved_write.specs.Inner.{Put}
-use Rattle.saved_write.proofs.Laying.{tail-laid, put-more}
+use Rattle.table.proofs.Laying.{tail-laid}
+use Rattle.saved_write.proofs.Laying.{put-more}
 use Rattle.saved_write.proofs.Sections.{liveFields, removedFields, headFields, form-whole, form-room}
 use borrow.Author.Needs.{needs}
 use Rattle.saved_write.proofs.put_form.Statement.{statement}

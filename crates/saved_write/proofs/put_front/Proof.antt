@@ -3,7 +3,7 @@ use mathlib.Core.List.{[], _∷_}
 use native.Mathlib.Omega.{arith}
 use lib.ListN.{length-set, length-take, length-drop}
 use Rattle.saved.specs.Bytes.{digits}
-use Rattle.saved_write.proofs.Laying.{set-first, tail-laid}
+use Rattle.table.proofs.Laying.{set-first, tail-laid}
 use borrow.Author.Needs.{needs}
 use Rattle.saved_write.proofs.put_front.Statement.{statement}
 use Rattle.saved_write.proofs.put_front.Tie as tie

@@ -3,7 +3,7 @@ use mathlib.Core.List.{List, _∷_, _++_}
 use Prim.Native.Nat.{ℕ}
 use Rattle.saved.specs.Bytes.{digits, bytesOf}
 use Rattle.saved.specs.Field.{field}
-use Rattle.saved_write.proofs.Laying.{tail-laid}
+use Rattle.table.proofs.Laying.{tail-laid}
 use borrow.Author.Needs.{needs}
 use Rattle.saved_write.proofs.put_header.Statement.{statement}
 use Rattle.saved_write.proofs.put_header.Tie as tie

@@ -4,7 +4,8 @@ use Prim.Native.Nat.{ℕ, _+_, _*_}
 use native.Mathlib.Omega.{arith}
 use lib.ListN.{length}
 use Rattle.saved.specs.Bytes.{digits, bytesOf}
-use Rattle.saved_write.proofs.Laying.{tail-laid, put-field, live-field}
+use Rattle.table.proofs.Laying.{tail-laid}
+use Rattle.saved_write.proofs.Laying.{put-field, live-field}
 use borrow.Author.Needs.{needs}
 use Rattle.saved_write.proofs.put_live_field.Statement.{statement}
 use Rattle.saved_write.proofs.put_live_field.Tie as tie

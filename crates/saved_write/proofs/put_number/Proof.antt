@@ -3,7 +3,8 @@ use mathlib.Core.List.{List, [], _∷_}
 use Prim.Native.Nat.{ℕ, _/_, _%_, _≤_, _<_}
 use native.Mathlib.Omega.{arith}
 use lib.ListN.{length, set}
-use Rattle.saved_write.proofs.Laying.{set-first, set-lay, two-digits}
+use Rattle.table.proofs.Laying.{set-first, set-lay}
+use Rattle.saved_write.proofs.Laying.{two-digits}
 use borrow.Author.Needs.{needs}
 use Rattle.saved_write.proofs.put_number.Statement.{statement}
 use Rattle.saved_write.proofs.put_number.Tie as tie

@@ -6,7 +6,8 @@ use lib.Seq.{take-all, length-take-le}
 use Rattle.table.specs.Stack.{lay}
 use Rattle.saved.specs.Bytes.{bytesOf}
 use Rattle.saved.proofs.Digits.{length-bytes}
-use Rattle.saved_write.proofs.Laying.{tail-laid, bytes-more}
+use Rattle.table.proofs.Laying.{tail-laid}
+use Rattle.saved_write.proofs.Laying.{bytes-more}
 use borrow.Author.Needs.{needs}
 use Rattle.saved_write.proofs.put_numbers.Statement.{statement}
 use Rattle.saved_write.proofs.put_numbers.Tie as tie

@@ -4,7 +4,8 @@ use Prim.Native.Nat.{ℕ, _+_, _*_}
 use native.Mathlib.Omega.{arith}
 use lib.ListN.{length}
 use Rattle.saved.specs.Bytes.{digits, bytesOf}
-use Rattle.saved_write.proofs.Laying.{tail-laid, put-field, removed-field}
+use Rattle.table.proofs.Laying.{tail-laid}
+use Rattle.saved_write.proofs.Laying.{put-field, removed-field}
 use borrow.Author.Needs.{needs}
 use Rattle.saved_write.proofs.put_removed_field.Statement.{statement}
 use Rattle.saved_write.proofs.put_removed_field.Tie as tie

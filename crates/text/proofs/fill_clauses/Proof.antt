@@ -10,7 +10,7 @@ use Rattle.table.specs.Limits.{base}
 use Rattle.table.specs.Stack.{lay}
 use Rattle.words.specs.Tokens.{tokensFrom}
 use Rattle.text.specs.declared.NextClause.{NextClause}
-use Rattle.text.specs.Res.{Res}
+use Rattle.table.specs.Res.{Res}
 use Rattle.text.specs.Clauses.{clauses}
 use Rattle.text.specs.Inner.{AddedClause, clausesFrom, litsOf, offsOf}
 use Rattle.text.proofs.Codes as Codes

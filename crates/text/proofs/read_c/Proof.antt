@@ -3,7 +3,7 @@ use mathlib.Core.Path.{ap, _∙_}
 use mathlib.Core.List.{List}
 use Prim.Native.Nat.{ℕ}
 use Rattle.words.specs.Tokens.{Token}
-use Rattle.text.specs.Res.{Res, _>>=_}
+use Rattle.table.specs.Res.{Res, _>>=_}
 use Rattle.text.specs.Problem.{noMore}
 use Rattle.text.proofs.read_c.Statement.{statement}
 use Rattle.text.proofs.read_c.Tie as tie

@@ -4,7 +4,7 @@ use mathlib.Core.List.{List}
 use lib.ListN.{length}
 use Rattle.table.specs.Limits.{base}
 use Rattle.words.specs.Tokens.{Token}
-use Rattle.text.specs.Res.{Res, _>>=_}
+use Rattle.table.specs.Res.{Res, _>>=_}
 use Rattle.text.specs.Problem.{fromCnf}
 use Rattle.text.proofs.read_p.Statement.{statement}
 use Rattle.text.proofs.read_p.Tie as tie

@@ -5,7 +5,7 @@ use Prim.Native.Nat.{ℕ}
 use lib.ListN.{length}
 use Rattle.table.specs.Limits.{base}
 use Rattle.words.specs.Tokens.{Token}
-use Rattle.text.specs.Res.{Res, _>>=_}
+use Rattle.table.specs.Res.{Res, _>>=_}
 use Rattle.text.specs.Problem.{fromC}
 use Rattle.text.proofs.read_v.Statement.{statement}
 use Rattle.text.proofs.read_v.Tie as tie

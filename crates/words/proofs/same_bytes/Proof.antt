@@ -3,7 +3,7 @@ use native.Mathlib.Omega.{arith}
 use mathlib.Core.Path.{_≡_, refl, sym, _∙_}
 use Prim.Native.Nat.{_-_, _≤_}
 use lib.ListN.{length, drop}
-use Rattle.words.specs.Bytes.{same}
+use Rattle.rules.specs.Walk.{same}
 use Rattle.words.proofs.Bytes as Bytes
 use Rattle.words.proofs.same_bytes.Statement.{statement}
 use Rattle.words.proofs.same_bytes.Tie as tie
