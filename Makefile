@@ -1,4 +1,4 @@
-.PHONY: run test
+.PHONY: run test soak peers bench
 
 BOOK ?= examples/coach.cnf
 
@@ -8,6 +8,19 @@ run:
 	@rm -f shrink.log
 	@tools/run-shrink < $(BOOK)
 
-# Everything: proofs, must-fail edits, programs.
+# Everything: proofs, must-fail edits, programs, the comparison with the second program.
 test:
 	bash .ci/run
+
+# The comparison's random groups with fresh seeds, until it is stopped.
+soak:
+	rt check shrink
+	tools/run-test compare soak tools/run-shrink
+
+# The comparison with CaDiCaL.
+peers:
+	tools/peers
+
+# The measurements of docs/BENCHMARKS.md.
+bench:
+	tools/bench
