@@ -1,8 +1,8 @@
 //! What the library is compared with, and measured beside.
-pub mod doors;
 pub mod books;
 pub mod cadical;
-pub mod same;
 pub mod compare;
+pub mod doors;
 pub mod random;
+pub mod same;
 pub mod second;
