@@ -7,3 +7,4 @@ pub mod Faults
 pub mod Literals
 pub mod Definition
 pub mod Joins
+pub mod Parts

@@ -1,9 +1,11 @@
 // Literals and clauses: the leaves on which every test of a rule book stands. A clause is a stretch of 16-bit literal codes.
 ghost use mathlib.Core.Path.{_≡_};
+ghost use Prim.Native.Nat.{_≤_};
+ghost use lib.ListN.{length};
 ghost use Rattle.rules.specs.Walk.{any};
 ghost use Rattle.rules.specs.Clause.{neg, mem, tautology};
 ghost use Rattle.rules.specs.Blocking.{resists};
-ghost use Rattle.rules.specs.Inner.{opposed, opposedBut};
+ghost use Rattle.rules.specs.Inner.{opposed, opposedBut, oneIf};
 
 // The negation of a literal.
 pub fn negated(l: u16) -> u16
@@ -12,8 +14,30 @@ pub fn negated(l: u16) -> u16
     if l % 2 == 0 { l + 1 } else { l - 1 }
 }
 
-// Whether the clause holds the literal.
-pub fn contains(c: &[u16], l: u16) -> bool
+// 1 where the two literals are the same, else 0.
+fn sameness(x: u16, l: u16) -> u16
+    ensures { λ r. ⌜ r ≡ oneIf x l ⌝ }
+{
+    if x == l { 1 } else { 0 }
+}
+
+// Whether a part of a clause, of at most 64 literals, holds the literal. It goes to the end whatever it meets, so that the machine compares many
+// literals at once.
+fn part_contains(c: &[u16], l: u16) -> bool
+    requires { ⌜ length (now c) ≤ 64 ⌝ }
+    ensures { λ r. ⌜ r ≡ mem l (now (c .entry)) ⌝ }
+{
+    let mut many = 0u16;
+    let mut i = 0;
+    while i < c.len() {
+        many += sameness(c[i], l);
+        i += 1;
+    }
+    0 < many
+}
+
+// Whether some literal of the clause is the literal. It stops at the first.
+fn walk_contains(c: &[u16], l: u16) -> bool
     ensures { λ r. ⌜ r ≡ mem l (now (c .entry)) ⌝ }
 {
     let mut i = 0;
@@ -24,6 +48,20 @@ pub fn contains(c: &[u16], l: u16) -> bool
         i += 1;
     }
     false
+}
+
+// Whether the clause holds the literal: parts of 64 literals first, and then the rest.
+pub fn contains(c: &[u16], l: u16) -> bool
+    ensures { λ r. ⌜ r ≡ mem l (now (c .entry)) ⌝ }
+{
+    let mut from = 0;
+    while 64 <= c.len() - from {
+        if part_contains(&c[from..from + 64], l) {
+            return true;
+        }
+        from += 64;
+    }
+    walk_contains(&c[from..c.len()], l)
 }
 
 // Whether the clause holds the literal of a stack's word, which may be no code at all.
