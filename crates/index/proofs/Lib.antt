@@ -2,3 +2,4 @@ pub mod Marks
 pub mod Holders
 pub mod Links
 pub mod Reasons
+pub mod Plains

@@ -1,29 +1,31 @@
 // The test of one literal, through an occurrence index: for each literal the clauses that hold it, rising, as a chain through the literals' places.
 ghost use mathlib.Core.Path.{_≡_};
-ghost use mathlib.Core.Bool.{true};
+ghost use mathlib.Core.Bool.{true, false};
 ghost use Prim.Native.Nat.{ℕ, _-_, _≤_, _<_};
 ghost use lib.ListN.{length, getD};
-ghost use Rattle.rules.specs.Clause.{mem};
+ghost use Rattle.rules.specs.Clause.{mem, tautology};
 ghost use Rattle.rules.specs.Blocking.{literal};
 ghost use Rattle.rules.specs.Book.{oneTo, bars, obstacle};
 ghost use Rattle.rules.specs.Elimination.{firstReason, turn};
 ghost use Rattle.table.specs.Limits.{base};
-ghost use Rattle.table.specs.Table.{table, row, bookOf, sound};
-ghost use Rattle.index.specs.Index.{liveOf, holderAbove, Indexed, Ready, entryOf};
-ghost use Rattle.index.specs.Inner.{Linking};
+ghost use Rattle.table.specs.Table.{table, row, bookOf, soundClause, sound};
+ghost use Rattle.table.specs.Inner.{Stamped};
+ghost use Rattle.index.specs.Index.{liveOf, holderAbove, Indexed, Plain, Ready, entryOf};
+ghost use Rattle.index.specs.Inner.{Linking, Told};
 
 // Marks the clauses 1 to m live, and no other.
 pub fn mark_all(m: usize, live: &mut [u8])
     requires { ⌜ m < length (now live) ⌝ }
     ensures { λ r. ⌜ liveOf (now (live .exit)) ≡ oneTo m ⌝ }
 {
-    let mut k = 0;
+    live[0] = 0;
+    let mut k = 1;
+    while k <= m {
+        live[k] = 1;
+        k += 1;
+    }
     while k < live.len() {
-        if 1 <= k && k <= m {
-            live[k] = 1;
-        } else {
-            live[k] = 0;
-        }
+        live[k] = 0;
         k += 1;
     }
 }
@@ -72,6 +74,43 @@ pub fn index_rows(
     }
 }
 
+// The mark of a clause: 1 where it is no tautology, else 0. A code met in it is stamped k, above every stamp that was there: a literal whose
+// negation's stamp is k clashes.
+fn clause_plain(n: usize, c: &[u16], k: u16, seen: &mut [u16]) -> u8
+    requires { ⌜ (n ≤ 2000) × (1 ≤ k) × (length (now seen) ≡ 4002) ⌝ }
+    requires { ⌜ soundClause base n (now c) ≡ true ⌝ }
+    requires { ⌜ Stamped (now seen) (k - 1) ⌝ }
+    ensures { λ r. ⌜ Told (now (c .entry)) k (now (seen .exit)) r ⌝ }
+{
+    let mut i = 0;
+    while i < c.len() {
+        let x = c[i];
+        let at = x as usize;
+        let z = rules::negated(x) as usize;
+        if seen[z] == k {
+            return 0;
+        }
+        seen[at] = k;
+        i += 1;
+    }
+    1
+}
+
+// Marks the plain clauses of a sound table: those that are no tautologies.
+pub fn mark_plain(n: usize, m: usize, lits: &[u16], offs: &[u32], plain: &mut [u8])
+    requires { ⌜ sound base (table n m (now lits) (now offs)) ≡ true ⌝ }
+    requires { ⌜ m < length (now plain) ⌝ }
+    ensures { λ r. ⌜ Plain (table n m (now (lits .entry)) (now (offs .entry))) (now (plain .exit)) ⌝ }
+{
+    let mut seen = [0u16; 4002];
+    let mut k = 0;
+    while k < m {
+        k += 1;
+        let c = table::row(n, m, lits, offs, k);
+        plain[k] = clause_plain(n, c, k as u16, &mut seen);
+    }
+}
+
 // The next clause above clause k that holds x, a literal of clause k; 0 where there is none.
 fn next_holder(
     n: usize,
@@ -99,23 +138,31 @@ fn next_holder(
     0
 }
 
-// Whether clause j is live and keeps l from blocking c.
+// Whether clause j is live and keeps l from blocking c; `easy` says that c is known to be plain.
 fn bars_at(
     n: usize,
     m: usize,
     lits: &[u16],
     offs: &[u32],
+    plain: &[u8],
     live: &[u8],
     c: &[u16],
+    easy: bool,
     l: u16,
     j: usize,
 ) -> bool
     requires { ⌜ sound base (table n m (now lits) (now offs)) ≡ true ⌝ }
+    requires { ⌜ Plain (table n m (now lits) (now offs)) (now plain) × (easy ≡ true → tautology (now c) ≡ false) ⌝ }
     requires { ⌜ (m < length (now live)) × (1 ≤ j) × (j ≤ m) ⌝ }
     ensures { λ r. ⌜ r ≡ bars literal (bookOf (table n m (now (lits .entry)) (now (offs .entry)))) (liveOf (now (live .entry))) (now (c .entry)) l j ⌝ }
 {
     if live[j] == 1 {
         let d = table::row(n, m, lits, offs, j);
+        if easy {
+            if plain[j] == 1 {
+                return rules::hinders_plain(c, l, d);
+            }
+        }
         return rules::hinders(c, l, d);
     }
     false
@@ -130,20 +177,22 @@ pub fn test_literal(
     offs: &[u32],
     heads: &[u16],
     nexts: &[u16],
+    plain: &[u8],
     live: &[u8],
     k: usize,
     l: u16,
 ) -> usize
-    requires { ⌜ Ready (table n m (now lits) (now offs)) (now heads) (now nexts) (now live) ⌝ }
+    requires { ⌜ Ready (table n m (now lits) (now offs)) (now heads) (now nexts) (now plain) (now live) ⌝ }
     requires { ⌜ (1 ≤ k) × (k ≤ m) × (mem l (row (table n m (now lits) (now offs)) k) ≡ true) ⌝ }
     ensures { λ r. ⌜ r ≡ obstacle literal (bookOf (table n m (now (lits .entry)) (now (offs .entry)))) (liveOf (now (live .entry))) k l ⌝ }
 {
     let c = table::row(n, m, lits, offs, k);
+    let easy = plain[k] == 1;
     let z = rules::negated(l);
     let at = z as usize;
     let mut j = heads[at] as usize;
     while j != 0 {
-        if bars_at(n, m, lits, offs, live, c, l, j) {
+        if bars_at(n, m, lits, offs, plain, live, c, easy, l, j) {
             return j;
         }
         j = next_holder(n, m, lits, offs, heads, nexts, j, z);
@@ -159,10 +208,11 @@ fn first_blocking(
     offs: &[u32],
     heads: &[u16],
     nexts: &[u16],
+    plain: &[u8],
     live: &[u8],
     k: usize,
 ) -> u16
-    requires { ⌜ Ready (table n m (now lits) (now offs)) (now heads) (now nexts) (now live) ⌝ }
+    requires { ⌜ Ready (table n m (now lits) (now offs)) (now heads) (now nexts) (now plain) (now live) ⌝ }
     requires { ⌜ (1 ≤ k) × (k ≤ m) ⌝ }
     ensures { λ r. ⌜ entryOf k r ≡ firstReason literal (bookOf (table n m (now (lits .entry)) (now (offs .entry)))) (liveOf (now (live .entry))) k (row (table n m (now (lits .entry)) (now (offs .entry))) k) ⌝ }
 {
@@ -170,7 +220,7 @@ fn first_blocking(
     let mut i = 0;
     while i < c.len() {
         let l = c[i];
-        if test_literal(n, m, lits, offs, heads, nexts, live, k, l) == 0 {
+        if test_literal(n, m, lits, offs, heads, nexts, plain, live, k, l) == 0 {
             return l;
         }
         i += 1;
@@ -186,15 +236,16 @@ pub fn turn_of(
     offs: &[u32],
     heads: &[u16],
     nexts: &[u16],
+    plain: &[u8],
     live: &[u8],
     k: usize,
 ) -> u16
-    requires { ⌜ Ready (table n m (now lits) (now offs)) (now heads) (now nexts) (now live) ⌝ }
+    requires { ⌜ Ready (table n m (now lits) (now offs)) (now heads) (now nexts) (now plain) (now live) ⌝ }
     requires { ⌜ (1 ≤ k) × (k ≤ m) ⌝ }
     ensures { λ r. ⌜ entryOf k r ≡ turn literal (bookOf (table n m (now (lits .entry)) (now (offs .entry)))) (liveOf (now (live .entry))) k ⌝ }
 {
     if live[k] == 1 {
-        return first_blocking(n, m, lits, offs, heads, nexts, live, k);
+        return first_blocking(n, m, lits, offs, heads, nexts, plain, live, k);
     }
     0
 }

@@ -15,14 +15,14 @@ use Rattle.table.specs.Limits.{base}
 use Rattle.table.specs.Table.{Table, bookOf, sound}
 use Rattle.table.proofs.Soundness.{sound-of}
 use Rattle.table.specs.Stack.{words, lay, push}
-use Rattle.index.specs.Index.{liveOf, Indexed, entryOf}
+use Rattle.index.specs.Index.{liveOf, Indexed, Plain, entryOf}
 use Rattle.index.proofs.Marks.{live-within}
 use Rattle.index.proofs.Reasons.{entry-of}
 use Rattle.removal.specs.Inner.{Desk, Made}
 use Rattle.removal.proofs.Pushes.{length-pushAll, pushAll-lay, made-none, made-one, made-more}
 
 module _ (t : Table) where
-  pub desk-few : {heads nexts marks ws : List ℕ} {c : ℕ} → Desk t heads nexts marks ws c → t .clauses ≤ 4000
+  pub desk-few : {heads nexts plain marks ws : List ℕ} {c : ℕ} → Desk t heads nexts plain marks ws c → t .clauses ≤ 4000
   desk-few d = sound-of t (d .ready .table-sound) .clauses
 
   -- a turn that found no literal makes nothing, one that found l makes the entry of k and l
@@ -38,18 +38,18 @@ module _ (t : Table) where
       subst (λ (s : List (Entry literal)). Made s marks ws c (set marks k 0) (push ws c k l) (c + 1)) (sym (entry-of k l (omega arith)) ∙ e) (made-one k l h)
 
   -- a clause that goes was live, and so there is room for it
-  pub live-room : {heads nexts marks ws : List ℕ} {c : ℕ} (k l : ℕ) → Desk t heads nexts marks ws c
+  pub live-room : {heads nexts plain marks ws : List ℕ} {c : ℕ} (k l : ℕ) → Desk t heads nexts plain marks ws c
       → entryOf k l ≡ turn literal (bookOf t) (liveOf marks) k → (l ≡ 0 → ⊥) → c < t .clauses
-  live-room {heads} {nexts} {marks} {ws} {c} k l d e n =
+  live-room {heads} {nexts} {plain} {marks} {ws} {c} k l d e n =
       let one : valid literal (bookOf t) (liveOf marks) ((k, l) ∷ []) ≡ true =
       subst (λ (s : List (Entry literal)). valid literal (bookOf t) (liveOf marks) s ≡ true) (sym e ∙ entry-of k l (omega arith)) (turn-valid literal (bookOf t) (liveOf marks) k) in
       omega (arith, d .balance, removed literal (bookOf t) (liveOf marks) ((k, l) ∷ []) (d .ready .marks-within) one)
 
   -- valid removals keep the desk in order
-  pub desk-kept : {heads nexts marks ws : List ℕ} {c : ℕ} {marks' ws' : List ℕ} {r : ℕ} (s : List (Entry literal))
-      → Desk t heads nexts marks ws c → valid literal (bookOf t) (liveOf marks) s ≡ true → Made s marks ws c marks' ws' r → length marks' ≡ length marks
-      → Desk t heads nexts marks' ws' r
-  desk-kept {heads} {nexts} {marks} {ws} {c} {marks'} {ws'} {r} s d v made same =
+  pub desk-kept : {heads nexts plain marks ws : List ℕ} {c : ℕ} {marks' ws' : List ℕ} {r : ℕ} (s : List (Entry literal))
+      → Desk t heads nexts plain marks ws c → valid literal (bookOf t) (liveOf marks) s ≡ true → Made s marks ws c marks' ws' r → length marks' ≡ length marks
+      → Desk t heads nexts plain marks' ws' r
+  desk-kept {heads} {nexts} {plain} {marks} {ws} {c} {marks'} {ws'} {r} s d v made same =
       let less : tally (liveOf marks) (t .clauses) ≡ length s + tally (liveOf marks') (t .clauses) =
       rw (made .live) (removed literal (bookOf t) (liveOf marks) s (d .ready .marks-within) v) in
       let wide : length ws' ≡ length ws = ap (λ (us : List ℕ). length us) (made .stack) ∙ length-pushAll ws c s in
@@ -57,6 +57,7 @@ module _ (t : Table) where
         ready = record {
           table-sound = d .ready .table-sound;
           index = d .ready .index;
+          plains = d .ready .plains;
           marks-many = rw same (d .ready .marks-many);
           marks-within = λ k h. d .ready .marks-within k (after-in literal (bookOf t) (liveOf marks) s k (rw (made .live) at h));
         };
@@ -92,9 +93,9 @@ module _ (t : Table) where
   pub left-start : {marks ws : List ℕ} → Left marks ws marks ws 0
   left-start = record { fuel = suc (t .clauses); done = []; enough = omega arith; made = made-none; rest = refl }
 
-  module _ {heads nexts marks' ws' marks'' ws'' : List ℕ} {c r : ℕ} (d : Desk t heads nexts marks' ws' c)
+  module _ {heads nexts plain marks' ws' marks'' ws'' : List ℕ} {c r : ℕ} (d : Desk t heads nexts plain marks' ws' c)
       (made : Made (turns literal (bookOf t) (liveOf marks') (t .clauses)) marks' ws' c marks'' ws'' r) (same : length marks'' ≡ length marks') where
-    pub swept : Desk t heads nexts marks'' ws'' r
+    pub swept : Desk t heads nexts plain marks'' ws'' r
     swept = desk-kept (turns literal (bookOf t) (liveOf marks') (t .clauses)) d (turns-valid literal (bookOf t) (liveOf marks') (t .clauses)) made same
 
     pub left-more : {marks ws : List ℕ} → (r ≡ c → ⊥) → Left marks ws marks' ws' c → Left marks ws marks'' ws'' r
@@ -127,13 +128,14 @@ module _ (t : Table) where
         empty (e ∷ s) h = absurd (omega arith)
 
   -- elimination: every clause is marked at first, and what was made is laid down from the stack's first word on
-  pub desk-start : {heads nexts marks ws : List ℕ} {s : Bool} → s ≡ sound base t → s ≡ true → 2 * t .clauses ≤ length ws → Indexed t heads nexts
-      → length marks ≡ 4001 → liveOf marks ≡ oneTo (t .clauses) → Desk t heads nexts marks ws 0
+  pub desk-start : {heads nexts plain marks ws : List ℕ} {s : Bool} → s ≡ sound base t → s ≡ true → 2 * t .clauses ≤ length ws → Indexed t heads nexts → Plain t plain
+      → length marks ≡ 4001 → liveOf marks ≡ oneTo (t .clauses) → Desk t heads nexts plain marks ws 0
   unfolding after
-  desk-start {heads} {nexts} {marks} {ws} e h r i l m = record {
+  desk-start {heads} {nexts} {plain} {marks} {ws} e h r i p l m = record {
     ready = record {
       table-sound = sym e ∙ h;
       index = i;
+      plains = p;
       marks-many = omega (arith, sound-of t (sym e ∙ h) .clauses);
       marks-within = live-within (t .clauses) marks [] m;
     };

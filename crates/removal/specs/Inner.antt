@@ -16,8 +16,8 @@ pushAll ws c [] = ws
 pushAll ws c (e ∷ s) = pushAll (push ws c (e .0) (e .1)) (suc c) s
 
 -- the test of one literal can be asked, and the stack has room for every clause that is still live
-pub record Desk (t : Table) (heads nexts marks ws : List ℕ) (c : ℕ) : Type 0 where
-  pub ready : Ready t heads nexts marks
+pub record Desk (t : Table) (heads nexts plain marks ws : List ℕ) (c : ℕ) : Type 0 where
+  pub ready : Ready t heads nexts plain marks
   pub room : 2 * t .clauses ≤ length ws
   pub balance : tally (liveOf marks) (t .clauses) + c ≤ t .clauses
 

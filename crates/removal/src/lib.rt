@@ -39,16 +39,17 @@ fn take_turn(
     offs: &[u32],
     heads: &[u16],
     nexts: &[u16],
+    plain: &[u8],
     live: &mut [u8],
     stack: &mut [u32],
     count: usize,
     k: usize,
 ) -> usize
-    requires { ⌜ Desk (table n m (now lits) (now offs)) (now heads) (now nexts) (now live) (now stack) count ⌝ }
+    requires { ⌜ Desk (table n m (now lits) (now offs)) (now heads) (now nexts) (now plain) (now live) (now stack) count ⌝ }
     requires { ⌜ (1 ≤ k) × (k ≤ m) ⌝ }
     ensures { λ r. ⌜ Made (turn literal (bookOf (table n m (now (lits .entry)) (now (offs .entry)))) (liveOf (now (live .entry))) k) (now (live .entry)) (now (stack .entry)) count (now (live .exit)) (now (stack .exit)) r ⌝ }
 {
-    let l = index::turn_of(n, m, lits, offs, heads, nexts, live, k);
+    let l = index::turn_of(n, m, lits, offs, heads, nexts, plain, live, k);
     if l == 0 {
         return count;
     }
@@ -66,18 +67,19 @@ fn sweep(
     offs: &[u32],
     heads: &[u16],
     nexts: &[u16],
+    plain: &[u8],
     live: &mut [u8],
     stack: &mut [u32],
     count: usize,
 ) -> usize
-    requires { ⌜ Desk (table n m (now lits) (now offs)) (now heads) (now nexts) (now live) (now stack) count ⌝ }
+    requires { ⌜ Desk (table n m (now lits) (now offs)) (now heads) (now nexts) (now plain) (now live) (now stack) count ⌝ }
     ensures { λ r. ⌜ Made (turns literal (bookOf (table n m (now (lits .entry)) (now (offs .entry)))) (liveOf (now (live .entry))) m) (now (live .entry)) (now (stack .entry)) count (now (live .exit)) (now (stack .exit)) r ⌝ }
 {
     let mut made = count;
     let mut k = 0;
     while k < m {
         k += 1;
-        made = take_turn(n, m, lits, offs, heads, nexts, live, stack, made, k);
+        made = take_turn(n, m, lits, offs, heads, nexts, plain, live, stack, made, k);
     }
     made
 }
@@ -90,15 +92,16 @@ fn sweep_all(
     offs: &[u32],
     heads: &[u16],
     nexts: &[u16],
+    plain: &[u8],
     live: &mut [u8],
     stack: &mut [u32],
 ) -> usize
-    requires { ⌜ Desk (table n m (now lits) (now offs)) (now heads) (now nexts) (now live) (now stack) 0 ⌝ }
+    requires { ⌜ Desk (table n m (now lits) (now offs)) (now heads) (now nexts) (now plain) (now live) (now stack) 0 ⌝ }
     ensures { λ r. ⌜ Made (sweeps literal (bookOf (table n m (now (lits .entry)) (now (offs .entry)))) (suc m) (liveOf (now (live .entry)))) (now (live .entry)) (now (stack .entry)) 0 (now (live .exit)) (now (stack .exit)) r ⌝ }
 {
     let mut count = 0;
     loop {
-        let made = sweep(n, m, lits, offs, heads, nexts, live, stack, count);
+        let made = sweep(n, m, lits, offs, heads, nexts, plain, live, stack, count);
         if made == count {
             return made;
         }
@@ -119,7 +122,9 @@ pub fn eliminate(n: usize, m: usize, lits: &[u16], offs: &[u32], stack: &mut [u3
         let mut heads = [0u16; 4002];
         let mut nexts = [0u16; 16000];
         index::index_rows(n, m, lits, offs, &mut heads, &mut nexts);
-        let count = sweep_all(n, m, lits, offs, &heads, &nexts, &mut live, stack);
+        let mut plain = [0u8; 4001];
+        index::mark_plain(n, m, lits, offs, &mut plain);
+        let count = sweep_all(n, m, lits, offs, &heads, &nexts, &plain, &mut live, stack);
         return Counted::Count(count);
     }
     Counted::Refused(Refusal::BadTable)
@@ -135,7 +140,9 @@ fn prevented(n: usize, m: usize, lits: &[u16], offs: &[u32], live: &[u8], k: usi
     let mut heads = [0u16; 4002];
     let mut nexts = [0u16; 16000];
     index::index_rows(n, m, lits, offs, &mut heads, &mut nexts);
-    0 < index::test_literal(n, m, lits, offs, &heads, &nexts, live, k, l)
+    let mut plain = [0u8; 4001];
+    index::mark_plain(n, m, lits, offs, &mut plain);
+    0 < index::test_literal(n, m, lits, offs, &heads, &nexts, &plain, live, k, l)
 }
 
 // The removal of the clause that is named, from an open stack.
@@ -196,15 +203,16 @@ fn lowest_blocked(
     offs: &[u32],
     heads: &[u16],
     nexts: &[u16],
+    plain: &[u8],
     live: &[u8],
 ) -> Next
-    requires { ⌜ Ready (table n m (now lits) (now offs)) (now heads) (now nexts) (now live) ⌝ }
+    requires { ⌜ Ready (table n m (now lits) (now offs)) (now heads) (now nexts) (now plain) (now live) ⌝ }
     ensures { λ r. ⌜ nextReply r ≡ answered (words (nextBlocked literal (bookOf (table n m (now (lits .entry)) (now (offs .entry)))) (liveOf (now (live .entry))) m)) ⌝ }
 {
     let mut k = 0;
     while k < m {
         k += 1;
-        let l = index::turn_of(n, m, lits, offs, heads, nexts, live, k);
+        let l = index::turn_of(n, m, lits, offs, heads, nexts, plain, live, k);
         if l != 0 {
             return Next::Blocked(k as u32, l as u32);
         }
@@ -231,7 +239,9 @@ pub fn next_blocked(
             let mut heads = [0u16; 4002];
             let mut nexts = [0u16; 16000];
             index::index_rows(n, m, lits, offs, &mut heads, &mut nexts);
-            lowest_blocked(n, m, lits, offs, &heads, &nexts, &live)
+            let mut plain = [0u8; 4001];
+            index::mark_plain(n, m, lits, offs, &mut plain);
+            lowest_blocked(n, m, lits, offs, &heads, &nexts, &plain, &live)
         }
     }
 }

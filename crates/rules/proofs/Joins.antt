@@ -10,7 +10,7 @@ use Rattle.rules.specs.Clause.{Clause, neg, mem, without, tautology}
 use Rattle.rules.specs.Blocking.{resists}
 use Rattle.rules.specs.Inner.{opposed, opposedBut}
 use Rattle.rules.specs.Proposition.{_∈_, InUnion}
-use Rattle.rules.proofs.Logic.{by-or, and-true, and-no, or-true, or-yes, same}
+use Rattle.rules.proofs.Logic.{by-or, differ, and-true, and-no, or-true, or-yes, or-no, not-false, same}
 use Rattle.rules.proofs.Members.{any-mem, mem-any, mem-in, in-mem}
 use Rattle.rules.proofs.Literals.{neg-neg}
 use Rattle.rules.proofs.Definition.{tautology-is, clash-is}
@@ -81,6 +81,13 @@ tautology-join C z D = same _ _ (λ h. parts (clash-is C z D .0 h)) (λ h. clash
         (q .0, inr (mem-in (q .0) D (q .1), r .0), inr (opposed-is D z (q .0) .0 (r .1)))))
         (λ a. let p = tautology-is C .0 a in (p .0, inl (p .1), inl (p .2)))
 
+-- a clause that is no tautology is none without z either
+plain-within : (D : Clause) (z : ℕ) → tautology D ≡ false → any (opposedBut D z) D ≡ false
+plain-within D z p =
+    not-false _ (λ t. let q = mem-any (opposedBut D z) D t in
+    let r = opposed-is D z (q .0) .0 (but-is D z (q .0) .0 (q .2) .1) in
+    differ (tautology-is D .1 (q .0, mem-in (q .0) D (q .1), r .0)) p)
+
 -- the literal test by parts, where z is the negation of l
 module _ (C : Clause) (l : ℕ) (D : Clause) (z : ℕ) (e : z ≡ neg l) where
   pub resists-absent : mem z D ≡ false → resists C l D ≡ false
@@ -98,3 +105,7 @@ module _ (C : Clause) (l : ℕ) (D : Clause) (z : ℕ) (e : z ≡ neg l) where
   pub resists-rest : mem z D ≡ true → any (opposed D z) C ≡ false → any (opposedBut D z) D ≡ false → resists C l D ≡ not (tautology C)
   unfolding resists
   resists-rest m a b = rw (← e, tautology-join C z D, m, a, b)
+
+  pub resists-plain : tautology C ≡ false → tautology D ≡ false → mem z D ≡ true → resists C l D ≡ not (any (opposed D z) C)
+  unfolding resists
+  resists-plain c d m = rw (← e, tautology-join C z D, m, plain-within D z d, c) (simp or-no)

@@ -1,5 +1,6 @@
 // Literals and clauses: the leaves on which every test of a rule book stands. A clause is a stretch of 16-bit literal codes.
 ghost use mathlib.Core.Path.{_≡_};
+ghost use mathlib.Core.Bool.{false};
 ghost use Prim.Native.Nat.{_≤_};
 ghost use lib.ListN.{length};
 ghost use Rattle.rules.specs.Walk.{any};
@@ -158,6 +159,19 @@ pub fn hinders(c: &[u16], l: u16, d: &[u16]) -> bool
             return false;
         }
         return !is_tautology(c);
+    }
+    false
+}
+
+// The same where neither clause is a tautology: then only a literal of c and one of d can clash.
+pub fn hinders_plain(c: &[u16], l: u16, d: &[u16]) -> bool
+    requires { ⌜ tautology (now c) ≡ false ⌝ }
+    requires { ⌜ tautology (now d) ≡ false ⌝ }
+    ensures { λ r. ⌜ r ≡ resists (now (c .entry)) l (now (d .entry)) ⌝ }
+{
+    let z = negated(l);
+    if contains(d, z) {
+        return !clashes(c, d, z);
     }
     false
 }

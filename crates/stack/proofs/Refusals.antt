@@ -19,7 +19,7 @@ use Rattle.table.specs.declared.Verdict.{Verdict}
 use Rattle.table.specs.declared.Verdict.the-variants.{Accepted, Refused}
 use Rattle.table.proofs.Soundness.{sound-of}
 use Rattle.table.proofs.Answers.{then-none, test-none, testAt-none, testAt-some, nowhere, tests-pass, tests-refuse}
-use Rattle.index.specs.Index.{liveOf, Indexed, Ready}
+use Rattle.index.specs.Index.{liveOf, Indexed, Plain, Ready}
 use Rattle.index.proofs.Marks.{live-within}
 use Rattle.stack.specs.Tests.{badEntry, lentTests, unblockedEntry, liveAfter, check}
 use Rattle.stack.specs.Inner.{Lent, Read, Checked, Passed, Opened, Open}
@@ -108,8 +108,8 @@ module _ {t : Table} {ws : List ℕ} {c : ℕ} {marks : List ℕ} (o : Open t ws
   unfolding liveAfter
   open-within = live-within (t .clauses) marks (entries ws c) (o .live)
 
-  pub open-ready : {heads nexts : List ℕ} → Indexed t heads nexts → Ready t heads nexts marks
-  open-ready i = record { table-sound = o .passed .table-sound; index = i; marks-many = o .marks-many; marks-within = open-within }
+  pub open-ready : {heads nexts plain : List ℕ} → Indexed t heads nexts → Plain t plain → Ready t heads nexts plain marks
+  open-ready i p = record { table-sound = o .passed .table-sound; index = i; plains = p; marks-many = o .marks-many; marks-within = open-within }
 
 -- the stack check
 module _ (t : Table) (ws : List ℕ) (c : ℕ) where

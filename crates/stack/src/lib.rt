@@ -8,7 +8,7 @@ ghost use lib.ListN.{length};
 ghost use Rattle.table.specs.Limits.{base};
 ghost use Rattle.table.specs.Table.{table, sound};
 ghost use Rattle.table.specs.Answer.{verdict};
-ghost use Rattle.index.specs.Index.{liveOf, Indexed};
+ghost use Rattle.index.specs.Index.{liveOf, Indexed, Plain};
 ghost use Rattle.stack.specs.Tests.{entryNames, badEntry, check};
 ghost use Rattle.stack.specs.Inner.{Lent, Read, Checked, Passed, Opened};
 
@@ -64,7 +64,7 @@ fn bad_entry(
     0
 }
 
-// The answer of `first_unblocked`, once the index is built and every clause marked live.
+// The answer of `first_unblocked`, once the index is built, the plain clauses are marked, and every clause is marked live.
 fn unblocked_entry(
     n: usize,
     m: usize,
@@ -72,12 +72,13 @@ fn unblocked_entry(
     offs: &[u32],
     heads: &[u16],
     nexts: &[u16],
+    plain: &[u8],
     stack: &[u32],
     count: usize,
     live: &mut [u8],
 ) -> usize
     requires { ⌜ Lent (table n m (now lits) (now offs)) (now stack) count (now live) ⌝ }
-    requires { ⌜ Indexed (table n m (now lits) (now offs)) (now heads) (now nexts) ⌝ }
+    requires { ⌜ Indexed (table n m (now lits) (now offs)) (now heads) (now nexts) × Plain (table n m (now lits) (now offs)) (now plain) ⌝ }
     requires { ⌜ badEntry (table n m (now lits) (now offs)) (now stack) count ≡ 0 ⌝ }
     ensures { λ r. ⌜ Checked (table n m (now (lits .entry)) (now (offs .entry))) (now (stack .entry)) count (now (live .exit)) r ⌝ }
 {
@@ -85,7 +86,7 @@ fn unblocked_entry(
     while i < count {
         let k = stack[2 * i] as usize;
         let l = stack[2 * i + 1] as u16;
-        if index::test_literal(n, m, lits, offs, heads, nexts, live, k, l) == 0 {
+        if index::test_literal(n, m, lits, offs, heads, nexts, plain, live, k, l) == 0 {
             live[k] = 0;
             i += 1;
         } else {
@@ -148,8 +149,10 @@ pub fn first_unblocked(
     let mut heads = [0u16; 4002];
     let mut nexts = [0u16; 16000];
     index::index_rows(n, m, lits, offs, &mut heads, &mut nexts);
+    let mut plain = [0u8; 4001];
+    index::mark_plain(n, m, lits, offs, &mut plain);
     index::mark_all(m, live);
-    unblocked_entry(n, m, lits, offs, &heads, &nexts, stack, count, live)
+    unblocked_entry(n, m, lits, offs, &heads, &nexts, &plain, stack, count, live)
 }
 
 // The stack check: whether every entry names a live clause with a literal that blocks it among those live at that time.

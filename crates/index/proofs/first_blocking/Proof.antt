@@ -14,19 +14,19 @@ use Rattle.index.proofs.first_blocking.Statement.{statement}
 use Rattle.index.proofs.first_blocking.Tie as tie
 
 abbrev Inv-loop : tie.InvT-loop
-Inv-loop n m lits offs heads nexts live k c i₀ i =
+Inv-loop n m lits offs heads nexts plain live k c i₀ i =
     (i ≤ length c)
     × (firstReason literal (bookOf (table n m lits offs)) (liveOf live) k (drop i c) ≡ firstReason literal (bookOf (table n m lits offs)) (liveOf live) k c)
 
 abbrev μ-loop : tie.MeasureT-loop
-μ-loop n m lits offs heads nexts live k c i₀ i = length c - i
+μ-loop n m lits offs heads nexts plain live k c i₀ i = length c - i
 
 known : (c : tie.Start Inv-loop μ-loop) → Sound (table (c .args .n) (c .args .m) (c .args .lits .now) (c .args .offs .now))
 known c = sound-of _ (c .pre .0 .table-sound)
 
 row-requires : tie.Need-row-requires Inv-loop μ-loop
 row-requires c κs =
-    let o = c .before .before .before .before .before in
+    let o = c .before .before .before .before .before .before in
     (known o .shape, o .pre .1)
 
 loop-holds : tie.Need-loop-holds Inv-loop μ-loop
@@ -40,18 +40,18 @@ shared-slice-read-l c = search needs
 
 test-literal-requires : tie.Need-test-literal-requires Inv-loop μ-loop
 test-literal-requires c κs = (
-  c .before .before .before .before .before .before .before .before .before .pre .0,
+  c .before .before .before .before .before .before .before .before .before .before .pre .0,
   (
-    c .before .before .before .before .before .before .before .before .before .pre .1 .0,
-    c .before .before .before .before .before .before .before .before .before .pre .1 .1,
+    c .before .before .before .before .before .before .before .before .before .before .pre .1 .0,
+    c .before .before .before .before .before .before .before .before .before .before .pre .1 .1,
     own-at _ _ (c .before .before .before .row .ensures .contents) _ (c .before .loop-test .taken),
   ),
 )
 
 returns : tie.Need-returns Inv-loop μ-loop
 returns c =
-    reason-here _ _ _ _ (c .before .before .before .before .before .row .ensures .contents) _ (known (c .before .before .before .before .before .before .before .before .before .before .before))
-    (c .before .before .before .before .before .before .before .before .before .before .before .pre .1 .0) (c .before .before .before .before .before .before .before .before .before .before .before .pre .1 .1)
+    reason-here _ _ _ _ (c .before .before .before .before .before .row .ensures .contents) _ (known (c .before .before .before .before .before .before .before .before .before .before .before .before))
+    (c .before .before .before .before .before .before .before .before .before .before .before .before .pre .1 .0) (c .before .before .before .before .before .before .before .before .before .before .before .before .pre .1 .1)
     _ (c .before .before .before .loop-test .taken) (c .before .test-literal .ensures) (c .if1 .taken) (c .before .before .before .before .loop .inv .1)
 
 add-i : tie.Need-add-i Inv-loop μ-loop

@@ -32,6 +32,14 @@ slice-aggregate-index-rows-2 c = search needs
 index-rows-requires : tie.Need-index-rows-requires
 index-rows-requires c κs = (sym (c .before .before .before .before .before .before .before .is-sound .ensures) ∙ c .before .before .before .before .before .before .if1 .taken, (refl, refl, zeros 4002))
 
+slice-aggregate-mark-plain : tie.Need-slice-aggregate-mark-plain
+slice-aggregate-mark-plain c = search needs
+
+mark-plain-requires : tie.Need-mark-plain-requires
+mark-plain-requires c κs =
+    let h = sym (c .before .before .before .before .before .before .before .before .before .before .before .is-sound .ensures) ∙ c .before .before .before .before .before .before .before .before .before .before .if1 .taken in
+    (h, omega (arith, sound-of _ h .clauses))
+
 slice-aggregate-sweep-all : tie.Need-slice-aggregate-sweep-all
 slice-aggregate-sweep-all c = search needs
 
@@ -41,14 +49,17 @@ slice-aggregate-sweep-all-2 c = search needs
 slice-aggregate-sweep-all-3 : tie.Need-slice-aggregate-sweep-all-3
 slice-aggregate-sweep-all-3 c = search needs
 
+slice-aggregate-sweep-all-4 : tie.Need-slice-aggregate-sweep-all-4
+slice-aggregate-sweep-all-4 c = search needs
+
 sweep-all-requires : tie.Need-sweep-all-requires
-sweep-all-requires c κs = desk-start _ (c .before .before .before .before .before .before .before .before .before .before .before .before .before .before .is-sound .ensures) (c .before .before .before .before .before .before .before .before .before .before .before .before .before .if1 .taken) (c .before .before .before .before .before .before .before .before .before .before .before .before .if2 .left) (c .before .before .before .before .before .before .index-rows .ensures) (c .before .before .before .before .before .before .before .before .before .before .mark-all .kept .1 .0) (c .before .before .before .before .before .before .before .before .before .before .mark-all .ensures)
+sweep-all-requires c κs = desk-start _ (c .before .before .before .before .before .before .before .before .before .before .before .before .before .before .before .before .before .before .is-sound .ensures) (c .before .before .before .before .before .before .before .before .before .before .before .before .before .before .before .before .before .if1 .taken) (c .before .before .before .before .before .before .before .before .before .before .before .before .before .before .before .before .if2 .left) (c .before .before .before .before .before .before .before .before .before .before .index-rows .ensures) (c .before .before .before .before .before .before .mark-plain .ensures) (c .before .before .before .before .before .before .before .before .before .before .before .before .before .before .mark-all .kept .1 .0) (c .before .before .before .before .before .before .before .before .before .before .before .before .before .before .mark-all .ensures)
 
 same-length : tie.Need-same-length
 same-length c = search needs
 
 returns-2 : tie.Need-returns-2
-returns-2 c = elimination-made _ _ (c .before .before .before .before .before .before .before .before .before .before .before .before .before .before .before .before .before .before .is-sound .ensures) (c .before .before .before .before .before .before .before .before .before .before .before .before .before .before .before .before .before .if1 .taken) (c .before .before .before .before .before .before .before .before .before .before .before .before .before .before .before .before .if2 .left) (c .before .before .before .before .before .before .before .before .before .before .before .before .before .before .mark-all .ensures) (c .before .before .before .sweep-all .ensures)
+returns-2 c = elimination-made _ _ (c .before .before .before .before .before .before .before .before .before .before .before .before .before .before .before .before .before .before .before .before .before .before .is-sound .ensures) (c .before .before .before .before .before .before .before .before .before .before .before .before .before .before .before .before .before .before .before .before .before .if1 .taken) (c .before .before .before .before .before .before .before .before .before .before .before .before .before .before .before .before .before .before .before .before .if2 .left) (c .before .before .before .before .before .before .before .before .before .before .before .before .before .before .before .before .before .before .mark-all .ensures) (c .before .before .before .sweep-all .ensures)
 
 returns-3 : tie.Need-returns-3
 returns-3 c = elimination-unsound _ _ (c .before .is-sound .ensures) (c .if1 .left)
@@ -65,9 +76,12 @@ eliminate-spec =
     slice-aggregate-index-rows
     slice-aggregate-index-rows-2
     index-rows-requires
+    slice-aggregate-mark-plain
+    mark-plain-requires
     slice-aggregate-sweep-all
     slice-aggregate-sweep-all-2
     slice-aggregate-sweep-all-3
+    slice-aggregate-sweep-all-4
     sweep-all-requires
     same-length
     returns-2

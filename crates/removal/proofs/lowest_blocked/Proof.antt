@@ -13,10 +13,10 @@ use Rattle.removal.proofs.lowest_blocked.Statement.{statement}
 use Rattle.removal.proofs.lowest_blocked.Tie as tie
 
 abbrev Inv-loop : tie.InvT-loop
-Inv-loop n m lits offs heads nexts live k₀ k = (k ≤ m) × (nextBlocked literal (bookOf (table n m lits offs)) (liveOf live) k ≡ [])
+Inv-loop n m lits offs heads nexts plain live k₀ k = (k ≤ m) × (nextBlocked literal (bookOf (table n m lits offs)) (liveOf live) k ≡ [])
 
 abbrev μ-loop : tie.MeasureT-loop
-μ-loop n m lits offs heads nexts live k₀ k = m - k
+μ-loop n m lits offs heads nexts plain live k₀ k = m - k
 
 loop-holds : tie.Need-loop-holds Inv-loop μ-loop
 unfolding nextBlocked
@@ -26,13 +26,13 @@ add-k : tie.Need-add-k Inv-loop μ-loop
 add-k c = search needs
 
 turn-of-requires : tie.Need-turn-of-requires Inv-loop μ-loop
-turn-of-requires c κs = (c .before .before .before .before .before .before .before .pre, omega arith)
-
-cast-t11 : tie.Need-cast-t11 Inv-loop μ-loop
-cast-t11 c = omega (arith, sound-of _ (c .before .before .before .before .before .before .before .before .before .pre .table-sound) .clauses)
+turn-of-requires c κs = (c .before .before .before .before .before .before .before .before .pre, omega arith)
 
 cast-t12 : tie.Need-cast-t12 Inv-loop μ-loop
-cast-t12 c = search needs
+cast-t12 c = omega (arith, sound-of _ (c .before .before .before .before .before .before .before .before .before .before .pre .table-sound) .clauses)
+
+cast-t13 : tie.Need-cast-t13 Inv-loop μ-loop
+cast-t13 c = search needs
 
 returns : tie.Need-returns Inv-loop μ-loop
 returns c = next-found _ _ _ (c .before .before .before .loop .k) (c .before .turn-of .result) (c .before .before .before .loop .inv .1) (c .before .turn-of .ensures) (c .if1 .taken) (c .before .before .loop-test .taken)
@@ -55,8 +55,8 @@ lowest-blocked-spec =
     loop-holds
     add-k
     turn-of-requires
-    cast-t11
     cast-t12
+    cast-t13
     returns
     loop-less
     loop-again

@@ -14,18 +14,18 @@ use Rattle.removal.proofs.sweep.Statement.{statement}
 use Rattle.removal.proofs.sweep.Tie as tie
 
 abbrev Inv-loop : tie.InvT-loop
-Inv-loop n m lits offs heads nexts live₀ stack₀ count made₀ k₀ live stack made k =
+Inv-loop n m lits offs heads nexts plain live₀ stack₀ count made₀ k₀ live stack made k =
     (k ≤ m)
     × (length live ≡ length live₀)
     × (length stack ≡ length stack₀)
-    × Desk (table n m lits offs) heads nexts live stack made
+    × Desk (table n m lits offs) heads nexts plain live stack made
     × Made (turns literal (bookOf (table n m lits offs)) (liveOf live₀) k) live₀ stack₀ count live stack made
 
 abbrev μ-loop : tie.MeasureT-loop
-μ-loop n m lits offs heads nexts live₀ stack₀ count made₀ k₀ live stack made k = m - k
+μ-loop n m lits offs heads nexts plain live₀ stack₀ count made₀ k₀ live stack made k = m - k
 
 loop-holds : tie.Need-loop-holds Inv-loop μ-loop
-loop-holds c = (search needs, refl, refl, c .before .before .before .before .before .before .pre, turns-none _)
+loop-holds c = (search needs, refl, refl, c .before .before .before .before .before .before .before .pre, turns-none _)
 
 add-k : tie.Need-add-k Inv-loop μ-loop
 add-k c = search needs
@@ -38,14 +38,14 @@ loop-less c = search needs
 
 loop-again : tie.Need-loop-again Inv-loop μ-loop
 loop-again c =
-    let a = c .before .before .before .before .before .before .before .before .before .before .before .before .before .before .before .args in
+    let a = c .before .before .before .before .before .before .before .before .before .before .before .before .before .before .before .before .args in
     let t = table (a .n) (a .m) (a .lits .now) (a .offs .now) in
     let L = liveOf (c .before .before .before .before .before .before .before .before .loop .live) in
     let k = c .before .before .before .before .before .before .before .before .loop .k in
-    let same = c .before .before .before .before .take-turn .kept .1 .1 .1 .1 .1 .1 .0 in (
+    let same = c .before .before .before .before .take-turn .kept .1 .1 .1 .1 .1 .1 .1 .0 in (
       search needs,
       same ∙ c .before .before .before .before .before .before .before .before .loop .inv .1,
-      c .before .before .before .before .take-turn .kept .1 .1 .1 .1 .1 .1 .1 .0 ∙ c .before .before .before .before .before .before .before .before .loop .inv .2,
+      c .before .before .before .before .take-turn .kept .1 .1 .1 .1 .1 .1 .1 .1 .0 ∙ c .before .before .before .before .before .before .before .before .loop .inv .2,
       desk-kept t (turn literal (bookOf t) L (k + 1)) (c .before .before .before .before .before .before .before .before .loop .inv .3) (turn-valid literal (bookOf t) L (k + 1)) (c .before .before .before .before .take-turn .ensures) same,
       turns-next t k (c .before .before .before .before .before .before .before .before .loop .inv .4) (c .before .before .before .before .take-turn .ensures),
     )

@@ -8,38 +8,38 @@ use Rattle.removal.proofs.sweep_all.Statement.{statement}
 use Rattle.removal.proofs.sweep_all.Tie as tie
 
 abbrev Inv-loop : tie.InvT-loop
-Inv-loop n m lits offs heads nexts live₀ stack₀ count₀ live stack count =
+Inv-loop n m lits offs heads nexts plain live₀ stack₀ count₀ live stack count =
     (length live ≡ length live₀)
     × (length stack ≡ length stack₀)
-    × Desk (table n m lits offs) heads nexts live stack count
+    × Desk (table n m lits offs) heads nexts plain live stack count
     × Left (table n m lits offs) live₀ stack₀ live stack count
 
 abbrev μ-loop : tie.MeasureT-loop
-μ-loop n m lits offs heads nexts live₀ stack₀ count₀ live stack count = m - count
+μ-loop n m lits offs heads nexts plain live₀ stack₀ count₀ live stack count = m - count
 
 loop-holds : tie.Need-loop-holds Inv-loop μ-loop
-loop-holds c = (refl, refl, c .before .before .before .before .before .before .pre, left-start _)
+loop-holds c = (refl, refl, c .before .before .before .before .before .before .before .pre, left-start _)
 
 sweep-requires : tie.Need-sweep-requires Inv-loop μ-loop
 sweep-requires c κs = c .before .before .loop .inv .2
 
 same-length : tie.Need-same-length Inv-loop μ-loop
-same-length c = c .before .before .before .before .before .sweep .kept .1 .1 .1 .1 .1 .1 .0 ∙ c .before .before .before .before .before .before .before .before .loop .inv .0
+same-length c = c .before .before .before .before .before .sweep .kept .1 .1 .1 .1 .1 .1 .1 .0 ∙ c .before .before .before .before .before .before .before .before .loop .inv .0
 
 same-length-2 : tie.Need-same-length-2 Inv-loop μ-loop
-same-length-2 c = c .before .before .before .before .before .sweep .kept .1 .1 .1 .1 .1 .1 .1 .0 ∙ c .before .before .before .before .before .before .before .before .loop .inv .1
+same-length-2 c = c .before .before .before .before .before .sweep .kept .1 .1 .1 .1 .1 .1 .1 .1 .0 ∙ c .before .before .before .before .before .before .before .before .loop .inv .1
 
 returns : tie.Need-returns Inv-loop μ-loop
-returns c = left-end _ (c .before .before .before .before .before .before .before .before .loop .inv .2) (c .before .before .before .before .before .sweep .ensures) (c .before .before .before .before .before .sweep .kept .1 .1 .1 .1 .1 .1 .0) (c .if1 .taken) (c .before .before .before .before .before .before .before .before .loop .inv .3)
+returns c = left-end _ (c .before .before .before .before .before .before .before .before .loop .inv .2) (c .before .before .before .before .before .sweep .ensures) (c .before .before .before .before .before .sweep .kept .1 .1 .1 .1 .1 .1 .1 .0) (c .if1 .taken) (c .before .before .before .before .before .before .before .before .loop .inv .3)
 
 loop-less : tie.Need-loop-less Inv-loop μ-loop
-loop-less c = left-less _ (c .before .before .before .before .before .before .before .before .loop .inv .2) (c .before .before .before .before .before .sweep .ensures) (c .before .before .before .before .before .sweep .kept .1 .1 .1 .1 .1 .1 .0) (c .if1 .left)
+loop-less c = left-less _ (c .before .before .before .before .before .before .before .before .loop .inv .2) (c .before .before .before .before .before .sweep .ensures) (c .before .before .before .before .before .sweep .kept .1 .1 .1 .1 .1 .1 .1 .0) (c .if1 .left)
 
 loop-again : tie.Need-loop-again Inv-loop μ-loop
 loop-again c =
-    let same = c .before .before .before .before .before .sweep .kept .1 .1 .1 .1 .1 .1 .0 in (
+    let same = c .before .before .before .before .before .sweep .kept .1 .1 .1 .1 .1 .1 .1 .0 in (
       same ∙ c .before .before .before .before .before .before .before .before .loop .inv .0,
-      c .before .before .before .before .before .sweep .kept .1 .1 .1 .1 .1 .1 .1 .0 ∙ c .before .before .before .before .before .before .before .before .loop .inv .1,
+      c .before .before .before .before .before .sweep .kept .1 .1 .1 .1 .1 .1 .1 .1 .0 ∙ c .before .before .before .before .before .before .before .before .loop .inv .1,
       swept _ (c .before .before .before .before .before .before .before .before .loop .inv .2) (c .before .before .before .before .before .sweep .ensures) same,
       left-more _ (c .before .before .before .before .before .before .before .before .loop .inv .2) (c .before .before .before .before .before .sweep .ensures) same (c .if1 .left) (c .before .before .before .before .before .before .before .before .loop .inv .3),
     )

@@ -13,14 +13,14 @@ use Rattle.stack.proofs.unblocked_entry.Statement.{statement}
 use Rattle.stack.proofs.unblocked_entry.Tie as tie
 
 abbrev Inv-loop : tie.InvT-loop
-Inv-loop n m lits offs heads nexts stack count live₀ i₀ live i =
+Inv-loop n m lits offs heads nexts plain stack count live₀ i₀ live i =
     Reading m (entryBlocks (table n m lits offs)) stack count live i × (length live ≡ length live₀)
 
 abbrev μ-loop : tie.MeasureT-loop
-μ-loop n m lits offs heads nexts stack count live₀ i₀ live i = count - i
+μ-loop n m lits offs heads nexts plain stack count live₀ i₀ live i = count - i
 
 loop-holds : tie.Need-loop-holds Inv-loop μ-loop
-loop-holds c = (reading-start _ _ _ _ _ (c .before .before .before .before .before .before .pre .0), refl)
+loop-holds c = (reading-start _ _ _ _ _ (c .before .before .before .before .before .before .before .pre .0), refl)
 
 mul-k : tie.Need-mul-k Inv-loop μ-loop
 mul-k c = search needs
@@ -32,7 +32,7 @@ shared-slice-read-k : tie.Need-shared-slice-read-k Inv-loop μ-loop
 shared-slice-read-k c = search needs
 
 cast-k : tie.Need-cast-k Inv-loop μ-loop
-cast-k c = fits-widen tt (c .shared-slice-known6 .given _)
+cast-k c = fits-widen tt (c .shared-slice-known7 .given _)
 
 mul-l : tie.Need-mul-l Inv-loop μ-loop
 mul-l c = search needs
@@ -48,18 +48,19 @@ shared-slice-read-l c = search needs
 
 cast-l : tie.Need-cast-l Inv-loop μ-loop
 cast-l c =
-    let a = c .before .before .before .before .before .before .before .before .before .before .args in
+    let a = c .before .before .before .before .before .before .before .before .before .before .before .args in
     let t = table (a .n) (a .m) (a .lits .now) (a .offs .now) in
-    code-fits (entry-named t _ _ (c .before .before .before .loop .i) (c .before .before .before .before .before .before .before .before .before .before .pre .0 .table-sound) (c .before .before .before .before .before .before .before .before .before .before .pre .1 .1) (c .before .before .loop-test .taken) .small)
+    code-fits (entry-named t _ _ (c .before .before .before .loop .i) (c .before .before .before .before .before .before .before .before .before .before .before .pre .0 .table-sound) (c .before .before .before .before .before .before .before .before .before .before .before .pre .1 .1) (c .before .before .loop-test .taken) .small)
 
 test-literal-requires : tie.Need-test-literal-requires Inv-loop μ-loop
 test-literal-requires c κs =
-    let a = c .before .before .before .before .before .before .before .before .before .before .before .args in
+    let a = c .before .before .before .before .before .before .before .before .before .before .before .before .args in
     let t = table (a .n) (a .m) (a .lits .now) (a .offs .now) in
-    let n = entry-named t _ _ (c .before .before .before .before .loop .i) (c .before .before .before .before .before .before .before .before .before .before .before .pre .0 .table-sound) (c .before .before .before .before .before .before .before .before .before .before .before .pre .1 .1) (c .before .before .before .loop-test .taken) in (
+    let n = entry-named t _ _ (c .before .before .before .before .loop .i) (c .before .before .before .before .before .before .before .before .before .before .before .before .pre .0 .table-sound) (c .before .before .before .before .before .before .before .before .before .before .before .before .pre .1 .1) (c .before .before .before .loop-test .taken) in (
       record {
-        table-sound = c .before .before .before .before .before .before .before .before .before .before .before .pre .0 .table-sound;
-        index = c .before .before .before .before .before .before .before .before .before .before .before .pre .1 .0;
+        table-sound = c .before .before .before .before .before .before .before .before .before .before .before .before .pre .0 .table-sound;
+        index = c .before .before .before .before .before .before .before .before .before .before .before .before .pre .1 .0 .0;
+        plains = c .before .before .before .before .before .before .before .before .before .before .before .before .pre .1 .0 .1;
         marks-many = c .before .before .before .before .loop .inv .0 .many;
         marks-within = reading-within _ _ _ _ _ _ (c .before .before .before .before .loop .inv .0);
       },
@@ -68,9 +69,9 @@ test-literal-requires c κs =
 
 slice-write-live : tie.Need-slice-write-live Inv-loop μ-loop
 slice-write-live c =
-    let a = c .before .before .before .before .before .before .before .before .before .before .before .before .before .args in
+    let a = c .before .before .before .before .before .before .before .before .before .before .before .before .before .before .args in
     let t = table (a .n) (a .m) (a .lits .now) (a .offs .now) in
-    lt-of-le-of-lt (entry-named t _ _ (c .before .before .before .before .before .before .loop .i) (c .before .before .before .before .before .before .before .before .before .before .before .before .before .pre .0 .table-sound) (c .before .before .before .before .before .before .before .before .before .before .before .before .before .pre .1 .1) (c .before .before .before .before .before .loop-test .taken) .high) (c .before .before .before .before .before .before .loop .inv .0 .many)
+    lt-of-le-of-lt (entry-named t _ _ (c .before .before .before .before .before .before .loop .i) (c .before .before .before .before .before .before .before .before .before .before .before .before .before .before .pre .0 .table-sound) (c .before .before .before .before .before .before .before .before .before .before .before .before .before .before .pre .1 .1) (c .before .before .before .before .before .loop-test .taken) .high) (c .before .before .before .before .before .before .loop .inv .0 .many)
 
 add-i : tie.Need-add-i Inv-loop μ-loop
 add-i c = search needs
@@ -80,9 +81,9 @@ loop-less c = search needs
 
 loop-again : tie.Need-loop-again Inv-loop μ-loop
 loop-again c =
-    let a = c .before .before .before .before .before .before .before .before .before .before .before .before .before .args in
+    let a = c .before .before .before .before .before .before .before .before .before .before .before .before .before .before .args in
     let t = table (a .n) (a .m) (a .lits .now) (a .offs .now) in
-    let n = entry-named t _ _ (c .before .before .before .before .before .before .loop .i) (c .before .before .before .before .before .before .before .before .before .before .before .before .before .pre .0 .table-sound) (c .before .before .before .before .before .before .before .before .before .before .before .before .before .pre .1 .1) (c .before .before .before .before .before .loop-test .taken) in
+    let n = entry-named t _ _ (c .before .before .before .before .before .before .loop .i) (c .before .before .before .before .before .before .before .before .before .before .before .before .before .before .pre .0 .table-sound) (c .before .before .before .before .before .before .before .before .before .before .before .before .before .before .pre .1 .1) (c .before .before .before .before .before .loop-test .taken) in
     let y = blocks-tested t (liveOf (c .before .before .before .before .before .before .loop .live)) _ _ _ (n .holds) (c .before .test-literal .ensures) ∙ eq-eqb _ 0 (c .if1 .taken) in
     (reading-next _ _ _ _ _ _ (c .before .before .before .before .before .before .loop .inv .0) (c .before .before .before .before .before .loop-test .taken) y (n .high), length-set (c .before .before .before .before .before .before .loop .live) _ 0 ∙ c .before .before .before .before .before .before .loop .inv .1)
 
@@ -94,9 +95,9 @@ same-length c = c .before .before .before .before .before .before .loop .inv .1
 
 returns : tie.Need-returns Inv-loop μ-loop
 returns c =
-    let a = c .before .before .before .before .before .before .before .before .before .before .before .before .before .args in
+    let a = c .before .before .before .before .before .before .before .before .before .before .before .before .before .before .args in
     let t = table (a .n) (a .m) (a .lits .now) (a .offs .now) in
-    let n = entry-named t _ _ (c .before .before .before .before .before .before .loop .i) (c .before .before .before .before .before .before .before .before .before .before .before .before .before .pre .0 .table-sound) (c .before .before .before .before .before .before .before .before .before .before .before .before .before .pre .1 .1) (c .before .before .before .before .before .loop-test .taken) in
+    let n = entry-named t _ _ (c .before .before .before .before .before .before .loop .i) (c .before .before .before .before .before .before .before .before .before .before .before .before .before .before .pre .0 .table-sound) (c .before .before .before .before .before .before .before .before .before .before .before .before .before .before .pre .1 .1) (c .before .before .before .before .before .loop-test .taken) in
     let y = blocks-tested t (liveOf (c .before .before .before .before .before .before .loop .live)) _ _ _ (n .holds) (c .before .test-literal .ensures) ∙ ne-eqb _ 0 (c .if1 .left) in
     checked-stop _ _ _ _ _ (c .before .before .before .before .before .before .loop .inv .0) (c .before .before .before .before .before .loop-test .taken) y
 
