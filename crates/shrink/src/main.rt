@@ -186,13 +186,10 @@ fn say_book(
     finish(&out, c);
 }
 
+// A refusal in place of the output.
 fn say_refusal(r: Refusal) {
-    let told = table::told(r);
-    io::write_all(1, b"refused ");
-    io::print_decimal(1, told.number as u64);
-    io::write_all(1, b" at ");
-    io::print_decimal(1, told.place as u64);
-    io::write_all(1, b"\n");
+    say::refusal(r);
+    say::text(b"\n");
 }
 
 // Finds the rules that are not on the stack, and prints the book.

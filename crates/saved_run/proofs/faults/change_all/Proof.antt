@@ -1,0 +1,51 @@
+use mathlib.Core.Path.{_≡_}
+use Prim.Native.Nat.{_-_}
+use lib.ListN.{length}
+use borrow.Author.Needs.{needs}
+use Rattle.saved_run.proofs.faults.change_all.Statement.{statement}
+use Rattle.saved_run.proofs.faults.change_all.Tie as tie
+
+abbrev Inv-loop : tie.InvT-loop
+Inv-loop t₀ changes end₀ i₀ t end i = length t ≡ length t₀
+
+abbrev μ-loop : tie.MeasureT-loop
+μ-loop t₀ changes end₀ i₀ t end i = length changes - i
+
+loop-holds : tie.Need-loop-holds Inv-loop μ-loop
+loop-holds c = search needs
+
+piece-requires : tie.Need-piece-requires Inv-loop μ-loop
+piece-requires c κs = search needs
+
+change-requires : tie.Need-change-requires Inv-loop μ-loop
+change-requires c κs = search needs
+
+add-i : tie.Need-add-i Inv-loop μ-loop
+add-i c = search needs
+
+loop-less : tie.Need-loop-less Inv-loop μ-loop
+loop-less c = search needs
+
+loop-again : tie.Need-loop-again Inv-loop μ-loop
+loop-again c = search needs
+
+same-length : tie.Need-same-length Inv-loop μ-loop
+same-length c = search needs
+
+returns : tie.Need-returns Inv-loop μ-loop
+returns c = search needs
+
+pub change-all-spec : {M : Type 1} → statement M
+change-all-spec =
+    tie.close
+    (tie.spec
+    Inv-loop
+    μ-loop
+    loop-holds
+    piece-requires
+    change-requires
+    add-i
+    loop-less
+    loop-again
+    same-length
+    returns)
