@@ -50,3 +50,13 @@ pub fn hinders(c: &[u16], l: u16, d: &[u16]) -> bool {
         hinders_by(c, l, d, contains)
     }
 }
+
+/// The same where neither clause is a tautology: then only a literal of c and one of d can clash.
+pub fn hinders_plain(c: &[u16], l: u16, d: &[u16]) -> bool {
+    let z = negated(l);
+    if c.len() < SHORT && d.len() < SHORT {
+        contains_short(d, z) && !clashes(c, d, z, contains_short)
+    } else {
+        contains(d, z) && !clashes(c, d, z, contains)
+    }
+}
