@@ -40,19 +40,13 @@ pub fn piece(t: &[u8], sep: u8, i: usize) -> &[u8] {
     if a <= t.len() { front(&t[a..], sep) } else { t }
 }
 
-// A digit's value, to the base 16.
+// A digit's value, to the base 16; 0 for any other byte.
 fn digit(b: u8) -> usize {
-    if 48 <= b {
-        if b < 58 {
-            return (b - 48) as usize;
-        }
+    match b {
+        b'0'..=b'9' => (b - b'0') as usize,
+        b'A'..=b'F' => (b - b'A') as usize + 10,
+        _ => 0,
     }
-    if 65 <= b {
-        if b < 71 {
-            return (b - 55) as usize;
-        }
-    }
-    0
 }
 
 // A number with one more digit to the base 10; the largest one, where that is too large.
