@@ -96,8 +96,3 @@ pub decided-keeps : (o : Option Refusal) (cells new vs : List ℕ) (number place
     → decided o cells (outcome (answered vs) new) .reply ≡ refused number place → decided o cells (outcome (answered vs) new) .cells ≡ cells
 decided-keeps none cells new vs number place h = cc
 decided-keeps (some r) cells new vs number place h = refl
-
--- a success passed every test
-pub decided-passed : (o : Option Refusal) (cells new vs us : List ℕ) → decided o cells (outcome (answered vs) new) .reply ≡ answered us → o ≡ none
-decided-passed none cells new vs us h = refl
-decided-passed (some r) cells new vs us h = absurd (not-answered r us (sym h))

@@ -2,10 +2,12 @@
 
 use super::inputs::{draft, Draft, SMALL_SHAPES};
 use super::known::{self, K2};
+use super::places;
 use super::Compare;
 use crate::random::Random;
 use crate::second::removal::eliminate;
-use crate::second::{saved, Entry};
+use crate::second::saved::{self, field};
+use crate::second::Entry;
 
 /// The fields of a right form.
 fn fields(form: &[u8]) -> Vec<Vec<u8>> {
@@ -17,16 +19,6 @@ fn fields(form: &[u8]) -> Vec<Vec<u8>> {
         at = end;
     }
     fields
-}
-
-/// A field of these numbers, its length right.
-fn field(tag: u8, numbers: &[usize]) -> Vec<u8> {
-    let mut bytes = vec![tag];
-    bytes.extend_from_slice(&(2 * numbers.len() as u16).to_be_bytes());
-    for &number in numbers {
-        bytes.extend_from_slice(&(number as u16).to_be_bytes());
-    }
-    bytes
 }
 
 /// The bases that are damaged in every place.
@@ -44,34 +36,19 @@ fn bases() -> Vec<Vec<u8>> {
 }
 
 pub fn places() -> usize {
-    bases().iter().map(|base| base.len() + 1).sum()
+    places::count(&bases())
 }
 
 /// At one place of one base: the form cut there, each byte put in, each byte in place of the one that stands there, and bytes left out.
-pub fn at_each_place(compare: &mut Compare, mut case: usize) {
-    for base in bases() {
-        if case > base.len() {
-            case -= base.len() + 1;
-            continue;
-        }
-        compare.read_saved(&base[..case]);
-        compare.read_saved(&base[case..]);
-        for byte in 0..=255 {
-            let mut form = base.clone();
-            form.insert(case, byte);
-            compare.read_saved(&form);
-            if case < base.len() && base[case] != byte {
-                form = base.clone();
-                form[case] = byte;
-                compare.read_saved(&form);
-            }
-        }
-        for end in case + 1..=base.len().min(case + 4) {
-            let mut form = base.clone();
-            form.drain(case..end);
-            compare.read_saved(&form);
-        }
-        return;
+pub fn at_each_place(compare: &mut Compare, case: usize) {
+    let (base, case) = places::find(bases(), case);
+    places::edit(&base, case, |form| {
+        compare.read_saved(form);
+    });
+    for end in case + 1..=base.len().min(case + 4) {
+        let mut form = base.clone();
+        form.drain(case..end);
+        compare.read_saved(&form);
     }
 }
 

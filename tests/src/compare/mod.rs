@@ -9,6 +9,7 @@ pub mod known;
 pub mod lent;
 pub mod limits;
 pub mod orders;
+pub mod places;
 pub mod program;
 pub mod shapes;
 pub mod short;

@@ -1,7 +1,7 @@
 //! Texts, good and damaged.
 
 use super::inputs::{draft, Draft, SMALL_SHAPES};
-use super::{known, Compare, Table};
+use super::{known, places, Compare, Table};
 use crate::random::Random;
 use crate::second::table::fault;
 use crate::second::Literal;
@@ -23,42 +23,27 @@ fn bases() -> Vec<Vec<u8>> {
 
 /// Every base at every place: one case is one place.
 pub fn places() -> usize {
-    bases().iter().map(|base| base.len() + 1).sum()
+    places::count(&bases())
 }
 
 /// At one place of one base: the text cut there, each byte put in, each byte in place of the one that stands there, and the byte left out.
-pub fn at_each_place(compare: &mut Compare, mut case: usize) {
-    for base in bases() {
-        if case > base.len() {
-            case -= base.len() + 1;
-            continue;
-        }
-        compare.read_text(&base[..case]);
-        compare.read_text(&base[case..]);
-        for byte in 0..=255 {
-            let mut text = base.clone();
-            text.insert(case, byte);
-            compare.read_text(&text);
-            if case < base.len() && base[case] != byte {
-                text = base.clone();
-                text[case] = byte;
+pub fn at_each_place(compare: &mut Compare, case: usize) {
+    let (base, case) = places::find(bases(), case);
+    places::edit(&base, case, |text| {
+        compare.read_text(text);
+    });
+    if case < base.len() {
+        let mut text = base.clone();
+        text.remove(case);
+        compare.read_text(&text);
+        // Two bytes put in or in place of one, of those that mean something.
+        for one in MEANING {
+            for other in MEANING {
+                let mut text = base.clone();
+                text.splice(case..case + (one & 1) as usize, [*one, *other].iter().copied());
                 compare.read_text(&text);
             }
         }
-        if case < base.len() {
-            let mut text = base.clone();
-            text.remove(case);
-            compare.read_text(&text);
-            // Two bytes put in or in place of one, of those that mean something.
-            for one in MEANING {
-                for other in MEANING {
-                    let mut text = base.clone();
-                    text.splice(case..case + (one & 1) as usize, [*one, *other].iter().copied());
-                    compare.read_text(&text);
-                }
-            }
-        }
-        return;
     }
 }
 

@@ -11,7 +11,7 @@ const REMOVED: u8 = 0x03;
 const END: u8 = 0x7f;
 
 /// One field of these numbers.
-fn field(tag: u8, numbers: &[usize]) -> Vec<u8> {
+pub fn field(tag: u8, numbers: &[usize]) -> Vec<u8> {
     let mut bytes = vec![tag];
     bytes.extend_from_slice(&(2 * numbers.len() as u16).to_be_bytes());
     for &number in numbers {
