@@ -1,12 +1,16 @@
-.PHONY: run test soak peers bench
+.PHONY: run install test soak peers bench
 
 BOOK ?= examples/coach.cnf
+PREFIX ?= /usr/local
 
 # Proves and builds shrink, and runs it on a book: make run, or make run BOOK=file.
 run:
-	@rt check shrink > shrink.log 2>&1 || { cat shrink.log; rm -f shrink.log; exit 1; }
-	@rm -f shrink.log
-	@tools/run-shrink < $(BOOK)
+	@tools/prove shrink
+	@tools/run-shrink < "$(BOOK)"
+
+# Puts shrink, the library's archive, its header and its pkg-config file into a folder: make install PREFIX=dir.
+install:
+	@tools/install "$(DESTDIR)$(PREFIX)"
 
 # Everything: proofs, must-fail edits, programs, the comparison with the second program.
 test:

@@ -1,5 +1,5 @@
 /* A rule book's way through the library, from C: read, shrunk and saved at the desk; restored at a terminal, where a small answer is rebuilt into a full
- * order. Prints what each call answers. tools/run-terminal builds it, runs it and compares what it prints with terminal.out. */
+ * order. Prints what each call answers. tools/try-install builds it, runs it and compares what it prints with terminal.out. */
 #include "broodchamber.h"
 
 #include <stdio.h>

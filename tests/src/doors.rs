@@ -3,7 +3,7 @@
 /// The cells of an answer: 0 and the values, or the refusal's number and its place.
 pub type Answer = [usize; 4];
 
-#[link(name = "host", kind = "static")]
+#[link(name = "broodchamber", kind = "static")]
 extern "C" {
     fn bc_is_sound(n: usize, m: usize, lits: *const u16, lits_len: usize, offs: *const u32, offs_len: usize) -> bool;
     fn bc_clause_literals(

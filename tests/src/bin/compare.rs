@@ -1,6 +1,7 @@
 //! Compares the library with the second program.
 //!
 //!     compare gate [SHRINK]                     the fixed seeds; ends with one line, and with status 1 at the first difference
+//!     compare part [SHRINK]                     the same with a part of the cases, for where the program is emulated
 //!     compare soak [SHRINK]                     the random groups with fresh seeds, until it is stopped
 //!     compare again SEED GROUP CASE [SHRINK]    one case once more, every call printed
 
@@ -21,10 +22,10 @@ fn main() {
     }
     let mut compare = Compare::new();
     match words.iter().map(String::as_str).collect::<Vec<&str>>().as_slice() {
-        ["gate"] => gate(&mut compare),
-        ["gate", shrink] => {
+        [mode @ ("gate" | "part")] => gate(&mut compare, *mode == "part"),
+        [mode @ ("gate" | "part"), shrink] => {
             compare.shrink = Some(shrink.to_string());
-            gate(&mut compare);
+            gate(&mut compare, *mode == "part");
         }
         ["soak"] => soak(&mut compare),
         ["soak", shrink] => {
@@ -37,39 +38,45 @@ fn main() {
             again(&mut compare, seed, group, case);
         }
         _ => {
-            println!("compare gate [SHRINK] | compare soak [SHRINK] | compare again SEED GROUP CASE [SHRINK]");
+            println!("compare gate [SHRINK] | compare part [SHRINK] | compare soak [SHRINK] | compare again SEED GROUP CASE [SHRINK]");
             exit(2);
         }
     }
 }
 
-/// All cases of a group with one seed.
-fn run(compare: &mut Compare, group: &Group, seed: u64) {
+/// The cases of a group, or the part of them, with one seed.
+fn run(compare: &mut Compare, group: &Group, seed: u64, part: bool) {
     let (before, start) = (compare.calls, Instant::now());
-    for case in 0..group.cases {
+    let cases = if part { group.part() } else { (0..group.cases).collect() };
+    for &case in &cases {
         compare.begin(seed, group.name, case);
         (group.run)(compare, case);
     }
     let time = start.elapsed().as_secs_f64();
+    let of = if part { format!("of {:>5} ", group.cases) } else { String::new() };
     println!(
-        "{:<12} seed {:<20} {:>8} cases {:>9} calls {:>7.1} s",
+        "{:<12} seed {:<20} {:>8} {}cases {:>9} calls {:>7.1} s",
         group.name,
         seed,
-        group.cases,
+        cases.len(),
+        of,
         compare.calls - before,
         time
     );
 }
 
-fn gate(compare: &mut Compare) {
+fn gate(compare: &mut Compare, part: bool) {
     println!("K1 to K10: the second program alone is right");
+    if part {
+        println!("a part of the cases is compared: where this program is emulated, all of them take too long");
+    }
     if compare.shrink.is_none() {
         println!("no program shrink was named: its groups make no calls");
     }
     for group in groups() {
         let seeds = if group.random { &SEEDS[..] } else { &SEEDS[..1] };
         for &seed in seeds {
-            run(compare, &group, seed);
+            run(compare, &group, seed, part);
         }
     }
     compare.tally.print();
@@ -87,7 +94,7 @@ fn soak(compare: &mut Compare) {
         .map_or(0, |time| time.as_nanos() as u64);
     loop {
         for group in groups().iter().filter(|group| group.random) {
-            run(compare, group, seed);
+            run(compare, group, seed, false);
         }
         println!("compared {} calls, 0 differences", compare.calls);
         seed = seed.wrapping_add(1);

@@ -6,10 +6,10 @@ use Rattle.shrink.proofs.put_clause.Statement.{statement}
 use Rattle.shrink.proofs.put_clause.Tie as tie
 
 abbrev Inv-loop : tie.InvT-loop
-Inv-loop out₀ at c next₀ i₀ t6 out next i = length out ≡ length out₀
+Inv-loop buffer₀ c next₀ i₀ t6 buffer next i = length buffer ≡ length buffer₀
 
 abbrev μ-loop : tie.MeasureT-loop
-μ-loop out₀ at c next₀ i₀ t6 out next i = length c - i
+μ-loop buffer₀ c next₀ i₀ t6 buffer next i = length c - i
 
 loop-holds : tie.Need-loop-holds Inv-loop μ-loop
 loop-holds c = search needs

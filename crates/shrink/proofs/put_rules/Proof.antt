@@ -6,10 +6,10 @@ use Rattle.shrink.proofs.put_rules.Statement.{statement}
 use Rattle.shrink.proofs.put_rules.Tie as tie
 
 abbrev Inv-loop : tie.InvT-loop
-Inv-loop out₀ at n m lits offs live next₀ k₀ out next k = length out ≡ length out₀
+Inv-loop buffer₀ n m lits offs live next₀ k₀ buffer next k = length buffer ≡ length buffer₀
 
 abbrev μ-loop : tie.MeasureT-loop
-μ-loop out₀ at n m lits offs live next₀ k₀ out next k = m - k
+μ-loop buffer₀ n m lits offs live next₀ k₀ buffer next k = m - k
 
 loop-holds : tie.Need-loop-holds Inv-loop μ-loop
 loop-holds c = search needs

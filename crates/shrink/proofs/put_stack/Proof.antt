@@ -6,10 +6,10 @@ use Rattle.shrink.proofs.put_stack.Statement.{statement}
 use Rattle.shrink.proofs.put_stack.Tie as tie
 
 abbrev Inv-loop : tie.InvT-loop
-Inv-loop out₀ at stack count next₀ i₀ out next i = length out ≡ length out₀
+Inv-loop buffer₀ stack count next₀ i₀ buffer next i = length buffer ≡ length buffer₀
 
 abbrev μ-loop : tie.MeasureT-loop
-μ-loop out₀ at stack count next₀ i₀ out next i = 4000 - i
+μ-loop buffer₀ stack count next₀ i₀ buffer next i = 4000 - i
 
 loop-holds : tie.Need-loop-holds Inv-loop μ-loop
 loop-holds c = search needs

@@ -1,0 +1,30 @@
+use mathlib.Core.Path.{sym, ap, _∙_}
+use Rattle.removal.specs.Removal.{counted}
+use Rattle.answers.specs.Cells.{cellsOf}
+use Rattle.answers.proofs.Cells.{one-value}
+use borrow.Author.Needs.{needs}
+use Rattle.answers.proofs.of_counted.Statement.{statement}
+use Rattle.answers.proofs.of_counted.Tie as tie
+
+enum-known-c : tie.Need-enum-known-c
+enum-known-c c = search needs
+
+of-values-requires : tie.Need-of-values-requires
+of-values-requires c κs = search needs
+
+enum-known-c-2 : tie.Need-enum-known-c-2
+enum-known-c-2 c = search needs
+
+of-refusal-requires : tie.Need-of-refusal-requires
+of-refusal-requires c κs = search needs
+
+returns : tie.Need-returns
+returns c = c .of-values .ensures ∙ one-value _ ∙ sym (ap cellsOf (ap counted (c .before .before .c .given .1)))
+
+returns-2 : tie.Need-returns-2
+returns-2 c = c .of-refusal .ensures ∙ sym (ap cellsOf (ap counted (c .before .before .c2 .given .1)))
+
+pub of-counted-spec : {M : Type 1} → statement M
+of-counted-spec =
+    tie.close
+    (tie.spec enum-known-c of-values-requires enum-known-c-2 of-refusal-requires returns returns-2)

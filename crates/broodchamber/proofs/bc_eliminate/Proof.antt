@@ -1,0 +1,37 @@
+use Rattle.broodchamber.proofs.Calls.{not-made, made-wrote}
+use borrow.Author.Needs.{needs}
+use Rattle.broodchamber.proofs.bc_eliminate.Statement.{statement}
+use Rattle.broodchamber.proofs.bc_eliminate.Tie as tie
+
+returns : tie.Need-returns
+returns c = not-made _ _ _ _ (c .if1 .taken)
+
+eliminate-requires : tie.Need-eliminate-requires
+eliminate-requires c κs = search needs
+
+of-counted-requires : tie.Need-of-counted-requires
+of-counted-requires c κs = search needs
+
+tell-requires : tie.Need-tell-requires
+tell-requires c κs = search needs
+
+same-length : tie.Need-same-length
+same-length c = search needs
+
+same-length-2 : tie.Need-same-length-2
+same-length-2 c = search needs
+
+returns-2 : tie.Need-returns-2
+returns-2 c = made-wrote _ _ _ _ _ (c .before .before .before .before .before .before .before .eliminate .ensures) (c .before .before .before .before .before .before .before .before .before .if1 .left) (c .before .before .tell .ensures) (c .before .before .before .of-counted .ensures)
+
+pub bc-eliminate-spec : {M : Type 1} → statement M
+bc-eliminate-spec =
+    tie.close
+    (tie.spec
+    returns
+    eliminate-requires
+    of-counted-requires
+    tell-requires
+    same-length
+    same-length-2
+    returns-2)
