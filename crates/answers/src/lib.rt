@@ -51,6 +51,7 @@ pub fn of_refusal(r: Refusal) -> Answer
     }
 }
 
+// The cells of each entry's answer.
 pub fn of_verdict(v: Verdict) -> Answer
     ensures { λ a. ⌜ fourCells a ≡ cellsOf (verdict v) ⌝ }
 {
@@ -106,6 +107,7 @@ pub fn of_restored(back: Restored) -> Answer
     }
 }
 
+// A stack's word as a number.
 pub fn wide(x: u32) -> usize
     ensures { λ r. ⌜ r ≡ x ⌝ }
 {
