@@ -1,4 +1,4 @@
-//! The program `shrink` as a child process: what it prints, against what the second program says.
+//! The program `shrink` as a child process, started by tools/run-shrink: what it prints and its status, against what the second program says.
 
 use super::{known, texts, Compare};
 use crate::second::shrink::shrink;
@@ -32,15 +32,24 @@ fn run_on(compare: &mut Compare, text: &[u8]) {
     };
     compare.count_call();
     let expected = shrink(text);
-    let got = match output(&program, text) {
+    let expected_status = Some(i32::from(expected.starts_with("refused")));
+    let (got, status) = match output(&program, text) {
         Ok(got) => got,
         Err(error) => compare.differ(&format!("{} cannot be run: {}", program, error)),
     };
     if compare.loud {
         println!("shrink of {}", text.escape_ascii());
     }
+    let shown = |bytes: &[u8]| bytes[..bytes.len().min(2_000)].escape_ascii().to_string();
+    if status != expected_status {
+        compare.differ(&format!(
+            "shrink of {} ended with status {:?}, not {:?}",
+            shown(text),
+            status,
+            expected_status
+        ));
+    }
     if got != expected.as_bytes() {
-        let shown = |bytes: &[u8]| bytes[..bytes.len().min(2_000)].escape_ascii().to_string();
         let (input, printed, right) = (shown(text), shown(&got), shown(expected.as_bytes()));
         compare.differ(&format!(
             "shrink of {} bytes: {}\nprinted: {}\nmust print: {}",
@@ -52,8 +61,8 @@ fn run_on(compare: &mut Compare, text: &[u8]) {
     }
 }
 
-/// What the program prints on standard output for this standard input.
-fn output(program: &str, input: &[u8]) -> std::io::Result<Vec<u8>> {
+/// What the program prints on standard output for this standard input, and its status.
+fn output(program: &str, input: &[u8]) -> std::io::Result<(Vec<u8>, Option<i32>)> {
     let mut child = Command::new(program)
         .stdin(Stdio::piped())
         .stdout(Stdio::piped())
@@ -67,5 +76,5 @@ fn output(program: &str, input: &[u8]) -> std::io::Result<Vec<u8>> {
     });
     let output = child.wait_with_output()?;
     let _ = writer.join();
-    Ok(output.stdout)
+    Ok((output.stdout, output.status.code()))
 }
