@@ -1,5 +1,4 @@
 use Rattle.answers.proofs.Cells.{three-values}
-use borrow.Author.Needs.{needs}
 use Rattle.answers.proofs.of_values.Statement.{statement}
 use Rattle.answers.proofs.of_values.Tie as tie
 
