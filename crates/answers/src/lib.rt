@@ -1,4 +1,6 @@
 // What a call answers as four cells: 0 and its values, or the refusal's number and its place, and zeros in the rest.
+#![tactic(auto)]
+
 ghost use Rattle.std.specs.Prelude.{◌≡◌, [], ◌∷◌, ◌≤◌, length};
 ghost use Rattle.table.specs.Stack.{lay};
 ghost use Rattle.table.specs.Answer.{answered, paper, verdict};

@@ -1,6 +1,8 @@
 // The doors: each public entry of the library as a C function on numbers and slices (include/broodchamber.h declares them for C). A slice passes as a
 // pointer and then a length. What a call answers stands in the first four cells of `answer`: 0 and its values, or the refusal's number and its place,
 // and zeros in the rest. Each says whether the call was made: with fewer than four cells for the answer it is not, and nothing changes.
+#![tactic(auto)]
+
 ghost use Rattle.std.specs.Prelude.{◌≡◌, [], ◌∷◌};
 ghost use Rattle.table.specs.Limits.{base};
 ghost use Rattle.table.specs.Table.{table, sound};

@@ -1,4 +1,6 @@
 // The test of one literal, through an occurrence index: for each literal the clauses that hold it, rising, as a chain through the literals' places.
+#![tactic(auto)]
+
 ghost use Rattle.std.specs.Prelude.{◌≡◌, true, false, ℕ, ◌-◌, ◌≤◌, ◌<◌, length, get_or};
 ghost use Rattle.rules.specs.Clause.{mem, tautology};
 ghost use Rattle.rules.specs.Blocking.{literal};

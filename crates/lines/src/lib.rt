@@ -1,4 +1,5 @@
 // A table of cases that a program has in its standard input: a line for each case, its fields parted by bars, the items of a field by blanks.
+#![tactic(auto)]
 
 // The place behind the first so many separators; the end, where there are fewer.
 fn start(t: &[u8], sep: u8, many: usize) -> usize {

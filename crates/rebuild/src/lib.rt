@@ -1,4 +1,6 @@
 // Rebuild: a choice for the remaining rules turned back into one for the whole book.
+#![tactic(auto)]
+
 ghost use Rattle.std.specs.Prelude.{◌≡◌, ◌/◌, ◌-◌, ◌≤◌, ◌<◌, length, get_or, set};
 ghost use Rattle.rules.specs.Clause.{value, holds};
 ghost use Rattle.rules.specs.Rebuild.{fails, falsified};

@@ -4,7 +4,7 @@ use mathlib.Core.Bool.{Bool, true, false, not}
 use mathlib.Core.List.{List, [], ◌∷◌}
 use mathlib.Core.Option.{some}
 use Prim.Native.Nat.{ℕ, suc, ◌+◌, ◌*◌, ◌≤◌, ◌<◌}
-use borrow.Author.Tests.{le-leb, lt-leb, not-true, not_false}
+use borrow.Author.Tests.{le-leb, lt-leb, not-true, not-false}
 use lib.ListN.{length}
 use Rattle.rules.specs.Blocking.{literal}
 use Rattle.rules.specs.Book.{one_to, blocks}
@@ -81,5 +81,5 @@ module _ {t : Table} {ws : List ℕ} {c : ℕ} {marks : List ℕ} (o : Open t ws
     pub removal_made : r ≡ false → outcome (counted (Count (c + 1))) (push ws c k l) ≡ removal base t ws c k l
     unfolding removal
     removal_made h =
-        let b : blocks literal (book_of t) (live_after t ws c) k l ≡ true = not_false _ (rw o.live at (sym e ∙ h)) in
+        let b : blocks literal (book_of t) (live_after t ws c) k l ≡ true = not-false _ (rw o.live at (sym e ∙ h)) in
         rw (passed_lent t ws c o.passed, q.names, b)

@@ -1,4 +1,6 @@
 // Blocked clause elimination: the removal of every clause that can go, of one named clause, and the question which clause can go next.
+#![tactic(auto)]
+
 ghost use Rattle.std.specs.Prelude.{◌≡◌, true, not, ℕ, suc, ◌≤◌, ◌<◌, length};
 ghost use Rattle.rules.specs.Clause.{mem};
 ghost use Rattle.rules.specs.Blocking.{literal};

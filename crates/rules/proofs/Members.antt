@@ -96,6 +96,7 @@ mem_in x [] h = differ h refl
 mem_in x (y ∷ C) h = by_eq x y (λ e. rw e (◌∈◌.here)) (λ n. let f = ne_eqb x y n in ◌∈◌.there (mem_in x C (cc)))
 
 pub in_mem : (x : ℕ) (C : Clause) → x ∈ C → mem x C ≡ true
+in_mem x [] m = elim m [ ]
 in_mem x (y ∷ C) (here) = mem_here y C
 in_mem x (y ∷ C) (there m) = mem_skip x y C (in_mem x C m)
 

@@ -113,6 +113,7 @@ module _ (N : Notion) (b : Book) where
   module _ (sound : Sound N) where
     reason_none : (L : Live) (k : ℕ) (rs : List N.Reason) → first_reason N b L k rs ≡ [] → (r : N.Reason) → r ∈ rs → blocks N b L k r ≡ false
     unfolding first_reason
+    reason_none L k [] h r m = elim m [ ]
     reason_none L k (q ∷ rs) h r (here) = by_bool (blocks N b L k q) (λ t. cc) (λ f. f)
     reason_none L k (q ∷ rs) h r (there m) = by_bool (blocks N b L k q) (λ t. cc) (λ f. reason_none L k rs (rw f at h) r m)
 

@@ -1,4 +1,6 @@
 // Literals and clauses: the leaves on which every test of a rule book stands. A clause is a stretch of 16-bit literal codes.
+#![tactic(auto)]
+
 ghost use Rattle.std.specs.Prelude.{◌≡◌, false, ◌≤◌, length};
 ghost use Rattle.rules.specs.Walk.{any};
 ghost use Rattle.rules.specs.Clause.{neg, mem, tautology};

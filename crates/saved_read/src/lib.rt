@@ -1,5 +1,7 @@
 // The reader of the saved form (document 01, 'The saved form'). Every field is tested first, and the places of the clauses are remembered; then the table
 // is filled, the stack is checked, and the lent buffers are written at the end, so that a refused form changes no cell.
+#![tactic(auto)]
+
 ghost use Rattle.std.specs.Prelude.{◌≡◌, ◌+◌, ◌*◌, ◌≤◌, ◌<◌, [], ◌∷◌, length, get_or, take, drop};
 ghost use Rattle.rules.specs.Walk.{every};
 ghost use Rattle.rules.specs.Clause.{mem};

@@ -35,7 +35,7 @@ pub fn reads_line(line: &[u8]) {
 }
 
 // What came of a form: its refusal's number and place, or two zeros, and whether the buffers are as they came.
-#[derive(Drop)]
+#[derive(Clone, Copy)]
 struct Fault {
     number: usize,
     place: usize,

@@ -1,4 +1,6 @@
 // The writer of the saved form: each field is written into the unused tail of the output.
+#![tactic(auto)]
+
 ghost use Rattle.std.specs.Prelude.{◌≡◌, true, [], ◌∷◌, ◌+◌, ◌*◌, ◌≤◌, ◌<◌, length};
 ghost use Rattle.table.specs.Limits.{base};
 ghost use Rattle.table.specs.Table.{table, sound};

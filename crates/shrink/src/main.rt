@@ -1,6 +1,7 @@
 // Shrinks a rule book: reads DIMACS text from standard input, removes every rule that can go, and prints the removals, oldest first, and then the
 // rules that remain as a text of the same kind; or the refusal (document 01, 'The program and one run whole'). On standard error it says that it takes
 // no argument, that standard input cannot be read, or that standard output cannot be written.
+#![tactic(auto)]
 ghost use Rattle.std.specs.Prelude.{◌-◌, ◌≤◌, ◌<◌, length};
 ghost use Rattle.table.specs.Table.{table};
 ghost use Rattle.table.specs.Inner.{Shape};

@@ -1,4 +1,6 @@
 // A lent stack: its entries read into marks of the live clauses, and the stack check.
+#![tactic(auto)]
+
 ghost use Rattle.std.specs.Prelude.{◌≡◌, true, ℕ, ◌≤◌, ◌<◌, length};
 ghost use Rattle.table.specs.Limits.{base};
 ghost use Rattle.table.specs.Table.{table, sound};

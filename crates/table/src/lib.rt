@@ -1,4 +1,6 @@
 // A table as it lies in lent memory: the refusals, the soundness test, and a clause's literals handed out.
+#![tactic(auto)]
+
 ghost use Rattle.std.specs.Prelude.{◌≡◌, ◌-◌, ◌≤◌, ◌<◌, length};
 ghost use Rattle.table.specs.Limits.{base};
 ghost use Rattle.rules.specs.Walk.{every_to};

@@ -1,5 +1,7 @@
 // The reader of DIMACS CNF text: comment lines, the problem line, the clauses (document 01, 'The text'). It goes through the clauses twice, first to find
 // a fault, then to fill the lent buffers, so that a refused text changes no cell.
+#![tactic(auto)]
+
 ghost use Rattle.std.specs.Prelude.{◌≡◌, true, false, ◌+◌, ◌≤◌, ◌<◌, min, length, drop};
 ghost use Rattle.table.specs.Limits.{base};
 ghost use Rattle.table.specs.Stack.{lay};

@@ -1,4 +1,6 @@
 // Bytes, tokens and numbers of a text: what a byte is, which token comes next, and what a token says as a number.
+#![tactic(auto)]
+
 ghost use Rattle.std.specs.Prelude.{◌≡◌, ◌≤◌, ◌<◌, min, length, drop, get_or};
 ghost use Rattle.rules.specs.Walk.{same};
 ghost use Rattle.words.specs.Bytes.{class_of, begins};

@@ -1,0 +1,16 @@
+use mathlib.Core.Path.{refl, sym, ◌∙◌}
+use native.Mathlib.Omega.{arith}
+use Rattle.rules.proofs.Walks.{any_here, any_next, any_end}
+use Rattle.rules.proofs.clashes.Goals as goal
+
+pub loop-i-init : goal.loop-i-init
+loop-i-init c = (omega arith, refl)
+
+pub returns-then-opposes : goal.returns-then-opposes
+returns-then-opposes c = sym (any_here _ _ c.loop-i.i (omega arith) (sym c.opposes.ensures ∙ c.if-opposes.true)) ∙ c.loop-i.invariant.1
+
+pub loop-i-preserved : goal.loop-i-preserved
+loop-i-preserved c = (omega arith, any_next _ _ c.loop-i.i (omega arith) (sym c.opposes.ensures ∙ c.if-opposes.false) ∙ c.loop-i.invariant.1)
+
+pub returns : goal.returns
+returns c = sym (any_end _ _ c.loop-i.i (omega arith)) ∙ c.loop-i.invariant.1

@@ -1,0 +1,26 @@
+use mathlib.Core.Path.{ap, ◌∙◌}
+use mathlib.Core.List.{List}
+use Prim.Native.Nat.{ℕ}
+use lib.ListN.{length}
+use Rattle.table.specs.Limits.{base}
+use Rattle.words.specs.Tokens.{Token}
+use Rattle.table.specs.Res.{Res, ◌>>=◌}
+use Rattle.text.specs.Problem.{from_c}
+use Rattle.text.proofs.read_v.Goals as goal
+
+pub read_c-requires : goal.read_c-requires
+read_c-requires c =
+    let x = rw c.in-Is.is at c.count_at-found.ensures in
+    (x.placed.1, x.placed.0)
+
+pub returns-in-Refused : goal.returns-in-Refused
+returns-in-Refused c =
+    let a = c.args in
+    let x = rw c.in-Refused.is at c.count_at-found.ensures in
+    record { same = ap (λ (r : Res (ℕ × List Token)). r >>= λ v. from_c base (length a.line.now) v.0 v.1) x.same; placed = tt }
+
+pub returns-in-Is : goal.returns-in-Is
+returns-in-Is c =
+    let a = c.args in
+    let x = rw c.in-Is.is at c.count_at-found.ensures in
+    record { same = ap (λ (r : Res (ℕ × List Token)). r >>= λ v. from_c base (length a.line.now) v.0 v.1) x.same ∙ c.read_c.ensures.same; placed = c.read_c.ensures.placed }
