@@ -3,6 +3,7 @@
 // input, a line for each: the label, the call, the numbers of variables and clauses, the literals, the offsets, the stack, then the count of entries and
 // a removal's clause and literal, and the values. A line that says 'limits' is for those whose tables are too long for a line.
 #![tactic(auto)]
+
 mod calls; // calls.rt: each call, and what came of it
 mod limits; // limits.rt: both sides of each limit
 

@@ -1,5 +1,6 @@
 // Saved forms written and read, and what came of it printed. A buffer's old contents are sevens.
 #![tactic(auto)]
+
 use saved_read::Restored;
 use saved_write::Written;
 use say::lent;

@@ -8,7 +8,7 @@ use lib.ListN.{length, take, drop, set, length-append}
 use borrow.Rule.Slice.PartMut.{put_mid}
 use Rattle.rules.specs.Walk.{upto}
 use Rattle.rules.specs.Clause.{Clause}
-use Rattle.rules.proofs.Walks.{length_upto, upto_same}
+use Rattle.rules.proofs.Walks.{upto_same}
 use Rattle.rules.proofs.Logic.{by_eq}
 use Rattle.table.specs.Stack.{lay}
 use Rattle.saved.specs.Reading.{all_literals, all_offsets}

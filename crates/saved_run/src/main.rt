@@ -4,6 +4,7 @@
 // count of entries and the output's room follow; the literals are K1's. For the reader, changes of K2 follow, each a place and, to the base 16,
 // the byte that comes there.
 #![tactic(auto)]
+
 mod form; // form.rt: K2 laid down by hand, and a form printed
 mod writes; // writes.rt: K2 both ways, and the writer's refusals
 mod faults; // faults.rt: every fault of a form

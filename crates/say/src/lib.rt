@@ -1,5 +1,6 @@
 // What the programs that run the library print: texts, numbers, refusals, and what lies in a lent buffer.
 #![tactic(auto)]
+
 pub mod lent; // lent.rt: whether a lent buffer is as it should be
 pub mod lay; // lay.rt: bytes and long clauses laid into a buffer
 

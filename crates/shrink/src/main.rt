@@ -2,12 +2,16 @@
 // rules that remain as a text of the same kind; or the refusal (document 01, 'The program and one run whole'). On standard error it says that it takes
 // no argument, that standard input cannot be read, or that standard output cannot be written.
 #![tactic(auto)]
+
 ghost use Rattle.std.specs.Prelude.{◌-◌, ◌≤◌, ◌<◌, length};
 ghost use Rattle.table.specs.Table.{table};
 ghost use Rattle.table.specs.Inner.{Shape};
 ghost use Rattle.shrink.specs.Input.{Within};
 
 use removal::Counted;
+use std::env::FillError;
+use std::io::{Read as _, Stdin};
+use std::rt::Env;
 use table::{Refusal, Verdict};
 use text::Read;
 
@@ -267,31 +271,30 @@ enum Input {
 }
 
 // One read of standard input: the bytes that came, none at the end of the input.
-fn read_some(rest: &mut [u8]) -> Input
+fn read_some(stdin: &mut Stdin, rest: &mut [u8]) -> Input
     ensures { Within (length rest.old) result }
 {
-    let got = libc::read(0, rest);
-    if got < 0 {
-        return Input::Unreadable;
+    match stdin.read(rest) {
+        Ok(got) => Input::Text(got),
+        Err(_) => Input::Unreadable,
     }
-    Input::Text(io::count(got, rest))
 }
 
 // One read of standard input into a buffer, behind its first `done` bytes.
-fn read_behind(text: &mut [u8], done: usize) -> Input
+fn read_behind(stdin: &mut Stdin, text: &mut [u8], done: usize) -> Input
     requires { done ≤ length text.old }
     ensures { Within (length text.old - done) result }
 {
-    read_some(&mut text[done..])
+    read_some(stdin, &mut text[done..])
 }
 
 // Reads standard input until the buffer is full, the input ends or a read fails.
-fn read_input(text: &mut [u8]) -> Input
+fn read_input(stdin: &mut Stdin, text: &mut [u8]) -> Input
     ensures { Within (length text.new) result }
 {
     let mut done = 0;
     while done < text.len() {
-        let Input::Text(more) = read_behind(text, done) else {
+        let Input::Text(more) = read_behind(stdin, text, done) else {
             return Input::Unreadable;
         };
         if more == 0 {
@@ -302,13 +305,22 @@ fn read_input(text: &mut [u8]) -> Input
     Input::Text(done)
 }
 
-fn main() {
-    if 1 < os::arg_count() {
+// Whether the program was given an argument.
+fn has_argument(rt: &impl Env) -> bool {
+    let mut first = [0u8; 1];
+    match rt.arg(1, &mut first) {
+        Err(FillError::NotPresent) => false,
+        _ => true,
+    }
+}
+
+fn main(rt: HostRuntime) {
+    if has_argument(&rt) {
         complain(b"usage: shrink < BOOK\n");
         return;
     }
     let mut text = [0u8; 65537];
-    match read_input(&mut text) {
+    match read_input(&mut rt.stdin(), &mut text) {
         Input::Text(n) => shrink_text(&text[..n]),
         Input::Unreadable => complain(b"shrink: standard input cannot be read\n"),
     }

@@ -7,13 +7,9 @@ use Rattle.table.specs.declared.Verdict.TheVariants.{Accepted, Refused}
 use Rattle.table.specs.Limits.{base}
 use Rattle.words.specs.Tokens.{Token, tokens_from}
 use Rattle.text.specs.declared.NextClause.{NextClause}
-use Rattle.text.specs.declared.NextClause.TheVariants as NextClause
 use Rattle.text.specs.declared.NextKeyword.{NextKeyword}
-use Rattle.text.specs.declared.NextKeyword.TheVariants as NextKeyword
 use Rattle.text.specs.declared.NextCount.{NextCount}
-use Rattle.text.specs.declared.NextCount.TheVariants as NextCount
 use Rattle.text.specs.declared.Counts.{Counts}
-use Rattle.text.specs.declared.Counts.TheVariants as Counts
 use Rattle.table.specs.Res.{Res, fault, ok}
 use Rattle.text.specs.Lines.{prologue}
 use Rattle.text.specs.Problem.{keyword, count}

@@ -2,6 +2,7 @@
 // are as they should be. A buffer's old contents are sevens; each has one cell more than the reader asks for. The short texts are in standard input, a
 // line for each: its label, and behind a bar the text, in which \n, \r and \t are a line end, a carriage return and a tab.
 #![tactic(auto)]
+
 mod reads; // reads.rt: a text read, and what came of it
 mod limits; // limits.rt: both sides of each limit that a long text is needed for, and short buffers
 

@@ -1,5 +1,4 @@
-use mathlib.Core.Bool.{false}
-use Prim.Native.Nat.{◌-◌, ◌<◌}
+use Prim.Native.Nat.{◌<◌}
 use native.Mathlib.Omega.{arith}
 use mir.Facts.{Fits-widen}
 use lib.ListN.{get_or}

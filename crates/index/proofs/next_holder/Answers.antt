@@ -1,5 +1,4 @@
 use mathlib.Core.Path.{◌≡◌}
-use mathlib.Core.Bool.{true}
 use Prim.Native.Nat.{◌-◌, ◌<◌}
 use native.Mathlib.Nat.{le_refl}
 use native.Mathlib.Omega.{arith}

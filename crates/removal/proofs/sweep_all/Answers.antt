@@ -1,4 +1,3 @@
-use Prim.Native.Nat.{◌-◌}
 use mathlib.Core.Path.{refl, ◌∙◌}
 use Rattle.removal.proofs.Desks.{left_start, swept, left_more, left_less, left_end}
 use Rattle.removal.proofs.sweep_all.Goals as goal

@@ -1,6 +1,6 @@
 use lib.ListN.{set}
 use mathlib.Core.Path.{◌≡◌, refl, ap, ◌∙◌}
-use Prim.Native.Nat.{ℕ, ◌+◌, ◌-◌}
+use Prim.Native.Nat.{ℕ, ◌+◌}
 use native.Mathlib.Omega.{arith}
 use lib.ListN.{length, length-drop, length-take, length-set}
 use Rattle.table.specs.Stack.{lay}

@@ -1,6 +1,6 @@
 use mathlib.Core.Path.{sym, ◌∙◌}
 use native.Mathlib.Omega.{arith}
-use borrow.Author.Tests.{eq-eqb, ne_eqb, not-true, not-false}
+use borrow.Author.Tests.{eq-eqb, ne_eqb}
 use Rattle.saved_read.proofs.Numbers.{first_number, second_number}
 use Rattle.saved_read.proofs.Found.{stretch_odd, stretch_short, stretch_many, stretch_full, stretch_is}
 use Rattle.saved_read.proofs.read_clause.Goals as goal

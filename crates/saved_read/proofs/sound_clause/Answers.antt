@@ -1,6 +1,5 @@
 use mathlib.Core.Path.{sym, ap, ◌∙◌}
 use native.Mathlib.Omega.{arith}
-use borrow.Author.Tests.{not-true, not-false}
 use Rattle.rules.specs.Walk.{every}
 use Rattle.table.specs.Table.{coded, distinct}
 use Rattle.saved.specs.Bytes.{numbers_of}

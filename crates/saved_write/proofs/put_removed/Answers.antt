@@ -1,5 +1,4 @@
 use mathlib.Core.Path.{◌≡◌, refl, sym, ap}
-use Prim.Native.Nat.{◌-◌}
 use native.Mathlib.Omega.{arith}
 use lib.ListN.{length-take, length-drop}
 use Rattle.table.specs.Table.{table}

@@ -8,4 +8,4 @@ use Rattle.shrink.proofs.read_behind.Goals as goal
 pub returns : goal.returns
 returns c =
     let a = c.args in
-    subst (λ (n : ℕ). Within n c.read_Some.result) (mid_len a.done _ a.text.now (le_refl _)) c.read_Some.ensures
+    subst (λ (n : ℕ). Within n c.read_some.result) (mid_len a.done _ a.text.now (le_refl _)) c.read_some.ensures

@@ -1,5 +1,4 @@
 use mathlib.Core.Path.{subst}
-use Prim.Native.Nat.{◌-◌}
 use borrow.Author.Rules.{rules}
 use Rattle.shrink.specs.Input.{Within}
 use Rattle.shrink.proofs.read_input.Goals as goal

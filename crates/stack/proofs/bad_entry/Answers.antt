@@ -1,6 +1,5 @@
 use mathlib.Core.Path.{◌≡◌, refl, sym, ◌∙◌}
 use mathlib.Core.Bool.{true}
-use Prim.Native.Nat.{◌-◌}
 use native.Mathlib.Nat.{lt_of_le_of_lt}
 use mir.Facts.{Fits-widen}
 use lib.ListN.{length-set}

@@ -1,5 +1,4 @@
 use mathlib.Core.Path.{refl, ◌∙◌}
-use Prim.Native.Nat.{◌-◌}
 use native.Mathlib.Nat.{lt_of_le_of_lt}
 use mir.Facts.{Fits-widen}
 use borrow.Author.Tests.{eq-eqb, ne_eqb}

@@ -1,7 +1,5 @@
 use native.Mathlib.Omega.{arith}
 use mathlib.Core.Path.{sym, ◌∙◌}
-use mathlib.Core.Bool.{false}
-use Prim.Native.Nat.{◌-◌}
 use Rattle.text.proofs.Lines as Lines
 use Rattle.text.proofs.first_line.Goals as goal
 

@@ -1,6 +1,5 @@
 use native.Mathlib.Omega.{arith}
 use mathlib.Core.Path.{sym, ◌∙◌}
-use Prim.Native.Nat.{◌-◌}
 use Rattle.text.proofs.Lines as Lines
 use Rattle.text.proofs.line_end.Goals as goal
 

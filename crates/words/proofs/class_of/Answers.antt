@@ -1,9 +1,5 @@
-use mathlib.Core.Path.{◌≡◌, ap, sym}
-use mathlib.Core.Logic.{⊎_elim, inl, inr}
-use borrow.Author.Tests.{le-leb, lt-leb, ne_eqb}
-use native.Mathlib.Omega.{arith}
-use lib.Dec.{leb}
-use mathlib.Core.Bool.{true}
+use mathlib.Core.Path.{ap, sym}
+use mathlib.Core.Logic.{⊎_elim}
 use Rattle.words.specs.Bytes.{class_of}
 use Rattle.words.proofs.class_of.Goals as goal
 
@@ -19,4 +15,3 @@ returns-in-13 c = sym (ap class_of c.in-13.is)
 
 pub returns-in-10 : goal.returns-in-10
 returns-in-10 c = sym (ap class_of c.in-10.is)
-

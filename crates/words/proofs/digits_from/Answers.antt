@@ -1,6 +1,5 @@
 use native.Mathlib.Omega.{arith}
 use mathlib.Core.Path.{sym, ◌∙◌}
-use Prim.Native.Nat.{◌-◌}
 use Rattle.words.proofs.Digits as Digits
 use Rattle.words.proofs.digits_from.Goals as goal
 

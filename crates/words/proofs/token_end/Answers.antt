@@ -1,7 +1,5 @@
 use native.Mathlib.Omega.{arith}
 use mathlib.Core.Path.{sym, ◌∙◌}
-use Prim.Native.Nat.{◌-◌}
-use Rattle.words.specs.Tokens.{within}
 use Rattle.words.proofs.Scans as Scans
 use Rattle.words.proofs.token_end.Goals as goal
 
