@@ -18,7 +18,7 @@ test:
 
 # The comparison's random groups with fresh seeds, until it is stopped.
 soak:
-	rt check shrink
+	tools/prove shrink
 	tools/run-test compare soak tools/run-shrink
 
 # The comparison with CaDiCaL.
