@@ -62,8 +62,8 @@ pub fn index_rows(
     heads: &mut [u16],
     nexts: &mut [u16],
 )
-    requires offs_value { sound base (table n m lits.now offs.now) ≡ true }
-    requires heads_len { (length heads.old ≡ 4002) × (length nexts.old ≡ 16000) × ((x : ℕ) → get_or heads.old x 0 ≡ 0) }
+    requires table_sound { sound base (table n m lits.now offs.now) ≡ true }
+    requires unlinked { (length heads.old ≡ 4002) × (length nexts.old ≡ 16000) × ((x : ℕ) → get_or heads.old x 0 ≡ 0) }
     ensures { Indexed (table n m lits.now offs.now) heads.new nexts.new }
 {
     let mut k = m;
@@ -76,8 +76,8 @@ pub fn index_rows(
 // The mark of a clause: 1 where it is no tautology, else 0. A code met in it is stamped k, above every stamp that was there: a literal whose
 // negation's stamp is k clashes.
 fn clause_plain(n: usize, c: &[u16], k: u16, seen: &mut [u16]) -> u8
-    requires n_bound { (n ≤ 2000) × (1 ≤ k) × (length seen.old ≡ 4002) }
-    requires c_value { sound_clause base n c.now ≡ true }
+    requires limits { (n ≤ 2000) × (1 ≤ k) × (length seen.old ≡ 4002) }
+    requires clause_sound { sound_clause base n c.now ≡ true }
     requires stamped { Stamped seen.old (k - 1) }
     ensures { Told c.now k seen.new result }
 {
@@ -97,7 +97,7 @@ fn clause_plain(n: usize, c: &[u16], k: u16, seen: &mut [u16]) -> u8
 
 // Marks the plain clauses of a sound table: those that are no tautologies.
 pub fn mark_plain(n: usize, m: usize, lits: &[u16], offs: &[u32], plain: &mut [u8])
-    requires offs_value { sound base (table n m lits.now offs.now) ≡ true }
+    requires table_sound { sound base (table n m lits.now offs.now) ≡ true }
     requires m_in_bounds { m < length plain.old }
     ensures { Plain (table n m lits.now offs.now) plain.new }
 {
@@ -121,7 +121,7 @@ fn next_holder(
     k: usize,
     x: u16,
 ) -> usize
-    requires offs_value { sound base (table n m lits.now offs.now) ≡ true }
+    requires table_sound { sound base (table n m lits.now offs.now) ≡ true }
     requires indexed { Indexed (table n m lits.now offs.now) heads.now nexts.now }
     requires le_k { (1 ≤ k) × (k ≤ m) × (mem x (row (table n m lits.now offs.now) k) ≡ true) }
     ensures { result ≡ holder_above (table n m lits.now offs.now) x k }
@@ -150,7 +150,7 @@ fn bars_at(
     l: u16,
     j: usize,
 ) -> bool
-    requires offs_value { sound base (table n m lits.now offs.now) ≡ true }
+    requires table_sound { sound base (table n m lits.now offs.now) ≡ true }
     requires plain { Plain (table n m lits.now offs.now) plain.now × (easy ≡ true → tautology c.now ≡ false) }
     requires m_in_bounds { (m < length live.now) × (1 ≤ j) × (j ≤ m) }
     ensures { result ≡ bars literal (book_of (table n m lits.now offs.now)) (live_of live.now) c.now l j }

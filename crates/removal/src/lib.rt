@@ -133,7 +133,7 @@ pub fn eliminate(n: usize, m: usize, lits: &[u16], offs: &[u32], stack: &mut [u3
 
 // Whether some live clause keeps the literal l of clause k from blocking it.
 fn prevented(n: usize, m: usize, lits: &[u16], offs: &[u32], live: &[u8], k: usize, l: u16) -> bool
-    requires offs_value { sound base (table n m lits.now offs.now) ≡ true }
+    requires table_sound { sound base (table n m lits.now offs.now) ≡ true }
     requires m_in_bounds { (m < length live.now) × ((j : ℕ) → live_of live.now j ≡ true → (1 ≤ j) × (j ≤ m)) }
     requires le_k { (1 ≤ k) × (k ≤ m) × (mem l (row (table n m lits.now offs.now) k) ≡ true) }
     ensures { result ≡ not (blocks literal (book_of (table n m lits.now offs.now)) (live_of live.now) k l) }

@@ -164,8 +164,8 @@ pub fn hinders(c: &[u16], l: u16, d: &[u16]) -> bool
 
 // The same where neither clause is a tautology: then only a literal of c and one of d can clash.
 pub fn hinders_plain(c: &[u16], l: u16, d: &[u16]) -> bool
-    requires c_value { tautology c.now ≡ false }
-    requires d_value { tautology d.now ≡ false }
+    requires c_plain { tautology c.now ≡ false }
+    requires d_plain { tautology d.now ≡ false }
     ensures { result ≡ resists c.now l d.now }
 {
     let z = negated(l);

@@ -304,7 +304,7 @@ fn read_line(
     marks: &[usize],
 ) -> NextLine
     requires at_in_bounds { at ≤ length bytes.now }
-    requires le_heads { (1 ≤ heads) × (heads ≤ 2) × (n ≤ 2_000) × (m < length marks.now) × (total ≤ 16_000) }
+    requires limits { (1 ≤ heads) × (heads ≤ 2) × (n ≤ 2_000) × (m < length marks.now) × (total ≤ 16_000) }
     ensures { result ≡ line_on heads n m total prev marks.now bytes.now at }
 {
     let found = value_at(bytes, at, heads + 1);
@@ -466,7 +466,7 @@ fn fill_rows(
 ) -> usize
     requires within { Within bytes.now starts.now ends.now }
     requires m_in_bounds { (m < length starts.now) × (m < length ends.now) × (m < length offs.old) }
-    requires m_in_bounds_2 { (length (all_literals (part_of bytes.now starts.now ends.now) m) ≤ length lits.old) × (length lits.old ≤ 16_000) }
+    requires room { (length (all_literals (part_of bytes.now starts.now ends.now) m) ≤ length lits.old) × (length lits.old ≤ 16_000) }
     ensures { (result ≡ length (all_literals (part_of bytes.now starts.now ends.now) m)) × (lits.new ≡ lay (all_literals (part_of bytes.now starts.now ends.now) m) lits.old) × (offs.new ≡ lay (all_offsets (part_of bytes.now starts.now ends.now) m) offs.old) }
 {
     offs[0] = 0;
@@ -519,7 +519,7 @@ fn hand_out(
     stack: &mut [u32],
 ) -> Restored
     requires passed { Passed (table n m rows.now ends.now) words.now count }
-    requires m_bound { (m ≤ 4_000) × (length rows.now ≤ length lits.old) × (length ends.now ≤ length offs.old) × (2 * count ≤ length stack.old) }
+    requires room { (m ≤ 4_000) × (length rows.now ≤ length lits.old) × (length ends.now ≤ length offs.old) × (2 * count ≤ length stack.old) }
     ensures { loaded (restored result) lits.new offs.new stack.new ≡ or_kept (test_at (unblocked_entry (table n m rows.now ends.now) words.now count) NotBlocking) lits.old offs.old stack.old (loaded (answered (n ∷ m ∷ count ∷ [])) (lay rows.now lits.old) (lay ends.now offs.old) (lay (take (2 * count) words.now) stack.old)) }
 {
     let mut live = [0u8; 4001];
@@ -547,7 +547,7 @@ fn unpack(
     stack: &mut [u32],
 ) -> Restored
     requires remembered { Remembered bytes.now n m count starts.now ends.now words.now }
-    requires in_bounds { (16_000 ≤ length lits.old) × (4_001 ≤ length offs.old) × (8_000 ≤ length stack.old) }
+    requires room { (16_000 ≤ length lits.old) × (4_001 ≤ length offs.old) × (8_000 ≤ length stack.old) }
     ensures { loaded (restored result) lits.new offs.new stack.new ≡ accepted (read_form base narrow bytes.now) lits.old offs.old stack.old }
 {
     let mut rows = [0u16; 16000];

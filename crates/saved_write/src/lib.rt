@@ -110,9 +110,9 @@ fn put_if_live(
     live: &[u8],
     k: usize,
 ) -> usize
-    requires offs_value { sound base (table n m lits.now offs.now) ≡ true }
+    requires table_sound { sound base (table n m lits.now offs.now) ≡ true }
     requires m_in_bounds { (m < length live.now) × (1 ≤ k) × (k ≤ m) }
-    requires k_in_bounds { length (fields_of 2 (live_line (table n m lits.now offs.now) (live_of live.now) k)) ≤ length out.old }
+    requires room { length (fields_of 2 (live_line (table n m lits.now offs.now) (live_of live.now) k)) ≤ length out.old }
     ensures { Put (fields_of 2 (live_line (table n m lits.now offs.now) (live_of live.now) k)) out.old out.new result }
 {
     if live[k] == 1 {
@@ -124,9 +124,9 @@ fn put_if_live(
 
 // The fields of the live clauses, numbers rising, and how many bytes they have.
 fn put_live(out: &mut [u8], n: usize, m: usize, lits: &[u16], offs: &[u32], live: &[u8]) -> usize
-    requires offs_value { sound base (table n m lits.now offs.now) ≡ true }
+    requires table_sound { sound base (table n m lits.now offs.now) ≡ true }
     requires m_in_bounds { m < length live.now }
-    requires m_in_bounds_2 { length (fields_of 2 (live_lines (table n m lits.now offs.now) (live_of live.now) m)) ≤ length out.old }
+    requires room { length (fields_of 2 (live_lines (table n m lits.now offs.now) (live_of live.now) m)) ≤ length out.old }
     ensures { Put (fields_of 2 (live_lines (table n m lits.now offs.now) (live_of live.now) m)) out.old out.new result }
 {
     let mut at = 0;
@@ -151,7 +151,7 @@ fn put_entry(
 ) -> usize
     requires passed { Passed (table n m lits.now offs.now) stack.now count }
     requires i_lt_count { i < count }
-    requires i_in_bounds { length (field 2 3 (removed_line (table n m lits.now offs.now) (entry_at stack.now i))) ≤ length out.old }
+    requires room { length (field 2 3 (removed_line (table n m lits.now offs.now) (entry_at stack.now i))) ≤ length out.old }
     ensures { Put (field 2 3 (removed_line (table n m lits.now offs.now) (entry_at stack.now i))) out.old out.new result }
 {
     let k = stack[2 * i] as usize;
@@ -171,7 +171,7 @@ fn put_removed(
     count: usize,
 ) -> usize
     requires passed { Passed (table n m lits.now offs.now) stack.now count }
-    requires count_in_bounds { length (fields_of 3 (removed_lines (table n m lits.now offs.now) (entries stack.now count))) ≤ length out.old }
+    requires room { length (fields_of 3 (removed_lines (table n m lits.now offs.now) (entries stack.now count))) ≤ length out.old }
     ensures { Put (fields_of 3 (removed_lines (table n m lits.now offs.now) (entries stack.now count))) out.old out.new result }
 {
     let mut at = 0;
@@ -194,8 +194,8 @@ fn put_form(
     count: usize,
     live: &[u8],
 )
-    requires fact { Open (table n m lits.now offs.now) stack.now count live.now }
-    requires count_in_bounds { length (encode narrow (table n m lits.now offs.now) (entries stack.now count)) ≤ length out.old }
+    requires opened { Open (table n m lits.now offs.now) stack.now count live.now }
+    requires room { length (encode narrow (table n m lits.now offs.now) (entries stack.now count)) ≤ length out.old }
     ensures { out.new ≡ lay (encode narrow (table n m lits.now offs.now) (entries stack.now count)) out.old }
 {
     put_header(out, n as u16, m as u16, offs[m] as u16, count as u16);

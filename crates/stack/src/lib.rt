@@ -21,8 +21,8 @@ pub fn entry_names(
     clause: u32,
     literal: u32,
 ) -> bool
-    requires offs_value { sound base (table n m lits.now offs.now) ≡ true }
-    requires by_index { (k : ℕ) → live_of live.now k ≡ true → (1 ≤ k) × (k ≤ m) }
+    requires table_sound { sound base (table n m lits.now offs.now) ≡ true }
+    requires marks_within { (k : ℕ) → live_of live.now k ≡ true → (1 ≤ k) × (k ≤ m) }
     ensures { result ≡ entry_names (table n m lits.now offs.now) (live_of live.now) (clause, literal) }
 {
     let k = clause as usize;
@@ -78,7 +78,7 @@ fn unblocked_entry(
 ) -> usize
     requires lent { Lent (table n m lits.now offs.now) stack.now count live.old }
     requires indexed { Indexed (table n m lits.now offs.now) heads.now nexts.now × Plain (table n m lits.now offs.now) plain.now }
-    requires count_value { bad_entry (table n m lits.now offs.now) stack.now count ≡ 0 }
+    requires none_bad { bad_entry (table n m lits.now offs.now) stack.now count ≡ 0 }
     ensures { Checked (table n m lits.now offs.now) stack.now count live.new result }
 {
     let mut i = 0;

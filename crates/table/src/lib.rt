@@ -126,7 +126,7 @@ fn is_coded(n: usize, x: u16) -> bool
 
 // Whether the clause is sound. A code met in it is stamped k, above every stamp that was there: a literal whose stamp is k stands twice.
 fn clause_sound(n: usize, c: &[u16], k: u16, seen: &mut [u16]) -> bool
-    requires n_bound { (n ≤ 2000) × (1 ≤ k) × (length seen.old ≡ 4002) }
+    requires limits { (n ≤ 2000) × (1 ≤ k) × (length seen.old ≡ 4002) }
     requires stamped { Stamped seen.old (k - 1) }
     ensures { Tested n c.now k seen.new result }
 {
@@ -153,7 +153,7 @@ fn clause_sound(n: usize, c: &[u16], k: u16, seen: &mut [u16]) -> bool
 // Whether every clause is sound.
 fn clauses_sound(n: usize, m: usize, lits: &[u16], offs: &[u32]) -> bool
     requires shape { Shape (table n m lits.now offs.now) }
-    requires n_bound { (n ≤ 2000) × (m ≤ 4000) }
+    requires limits { (n ≤ 2000) × (m ≤ 4000) }
     ensures { result ≡ every_to (sound_row base (table n m lits.now offs.now)) m }
 {
     let mut seen = [0u16; 4002];

@@ -364,7 +364,7 @@ fn add_clause(
 
 // The second pass: reads the clauses of a text that the first found good into the table.
 fn fill_clauses(text: &[u8], from: usize, n: usize, m: usize, lits: &mut [u16], offs: &mut [u32])
-    requires from_in_bounds { (from ≤ length text.now) × (n ≤ 2000) × (16000 ≤ length lits.old) × (m < length offs.old) }
+    requires limits { (from ≤ length text.now) × (n ≤ 2000) × (16000 ≤ length lits.old) × (m < length offs.old) }
     requires good { Good text.now from n m }
     ensures lits_after { lits.new ≡ lay (lits_of (clauses_from text.now from n m)) lits.old }
     ensures offs_after { offs.new ≡ lay (offs_of (clauses_from text.now from n m)) offs.old }

@@ -10,15 +10,15 @@ pub row-d-requires : goal.row-d-requires
 row-d-requires c =
     let o = c in
     record {
-      shape = (sound_of _ o.requires.offs_value).shape;
+      shape = (sound_of _ o.requires.table_sound).shape;
       le_k = (o.requires.m_in_bounds.1, o.requires.m_in_bounds.2);
     }
 
 pub hinders_plain-requires : goal.hinders_plain-requires
 hinders_plain-requires c =
     let o = c in record {
-      c_value = o.requires.plain.1 c.if-easy.true;
-      d_value = row_plain _ _ _ c.row-d.ensures.contents o.requires.m_in_bounds.1 o.requires.m_in_bounds.2 o.requires.plain.0 c.if-plain-j-eq1.true;
+      c_plain = o.requires.plain.1 c.if-easy.true;
+      d_plain = row_plain _ _ _ c.row-d.ensures.contents o.requires.m_in_bounds.1 o.requires.m_in_bounds.2 o.requires.plain.0 c.if-plain-j-eq1.true;
     }
 
 pub returns-then-plain-j-eq1 : goal.returns-then-plain-j-eq1

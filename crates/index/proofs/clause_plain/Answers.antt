@@ -13,10 +13,10 @@ small : (c : In-loop-i)
     → let x = get_or c.args.c.now c.loop-i.i 0 in (x < 4002) × (neg x < 4002)
 small c =
     let o = c in
-    stamps_there _ o.requires.n_bound.0 _ o.requires.c_value _ c.loop-i-test.true
+    stamps_there _ o.requires.limits.0 _ o.requires.clause_sound _ c.loop-i-test.true
 
 pub loop-i-init : goal.loop-i-init
-loop-i-init c = (marked_start _ _ _ _ c.requires.n_bound.1 c.requires.n_bound.2 c.requires.stamped, plain_none c.args.c.now)
+loop-i-init c = (marked_start _ _ _ _ c.requires.limits.1 c.requires.limits.2 c.requires.stamped, plain_none c.args.c.now)
 
 pub overflow_cast-at : goal.overflow_cast-at
 overflow_cast-at c = Fits-widen tt (c.type_inv.c _)
@@ -40,8 +40,8 @@ pub loop-i-preserved : goal.loop-i-preserved
 loop-i-preserved c =
     let o = c in
     let h = c.loop-i in (
-      stamp_next _ o.requires.n_bound.0 _ o.requires.c_value _ c.loop-i-test.true _ _ h.invariant.0,
-      plain_more _ o.requires.n_bound.0 _ o.requires.c_value _ c.loop-i-test.true _ _ h.invariant.0 h.invariant.1 _ c.negated-z.ensures c.if-seen-z.false,
+      stamp_next _ o.requires.limits.0 _ o.requires.clause_sound _ c.loop-i-test.true _ _ h.invariant.0,
+      plain_more _ o.requires.limits.0 _ o.requires.clause_sound _ c.loop-i-test.true _ _ h.invariant.0 h.invariant.1 _ c.negated-z.ensures c.if-seen-z.false,
     )
 
 pub returns : goal.returns

@@ -7,7 +7,7 @@ use Rattle.index.proofs.index_rows.Goals as goal
 pub loop-k-init : goal.loop-k-init
 loop-k-init c =
     let o = c in
-    (le_refl _, link_start _ o.requires.offs_value _ _ o.requires.heads_len.0 o.requires.heads_len.1 o.requires.heads_len.2)
+    (le_refl _, link_start _ o.requires.table_sound _ _ o.requires.unlinked.0 o.requires.unlinked.1 o.requires.unlinked.2)
 
 pub link_row-requires : goal.link_row-requires
 link_row-requires c = record {

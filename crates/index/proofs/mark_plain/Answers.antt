@@ -10,7 +10,7 @@ use Rattle.index.proofs.mark_plain.Goals as goal
 use Rattle.index.proofs.mark_plain.Goals.{Start}
 
 known : (c : Start) → Sound (table c.args.n c.args.m c.args.lits.now c.args.offs.now)
-known c = sound_of _ c.requires.offs_value
+known c = sound_of _ c.requires.table_sound
 
 pub loop-k-init : goal.loop-k-init
 loop-k-init c = (omega arith, length-replicate {A = ℕ} 4002 0, stamped_zeros 4002, refl, λ j a b e. absurd (omega arith))
@@ -31,8 +31,8 @@ pub clause_plain-requires : goal.clause_plain-requires
 clause_plain-requires c =
     let s = known (goal.at.clause_plain-requires c).Start in
     let h = c.loop-k in record {
-      n_bound = (s.variables, omega arith, h.invariant.1);
-      c_value = row_sound _ (h.k + 1) _ c.row-c.ensures.contents (omega arith) (omega arith) s;
+      limits = (s.variables, omega arith, h.invariant.1);
+      clause_sound = row_sound _ (h.k + 1) _ c.row-c.ensures.contents (omega arith) (omega arith) s;
       stamped = λ x. omega (arith, h.invariant.2 x);
     }
 

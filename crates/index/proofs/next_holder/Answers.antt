@@ -10,7 +10,7 @@ use Rattle.index.proofs.next_holder.Goals as goal
 use Rattle.index.proofs.next_holder.Goals.{In-loop-p, Start}
 
 known : (c : Start) → Sound (table c.args.n c.args.m c.args.lits.now c.args.offs.now)
-known c = sound_of _ c.requires.offs_value
+known c = sound_of _ c.requires.table_sound
 
 -- the place is within the buffers
 small : (c : In-loop-p)
@@ -18,7 +18,7 @@ small : (c : In-loop-p)
 unfolding offset
 small c =
     let o = c in
-    place_small _ (sound_of _ o.requires.offs_value) _ o.requires.le_k.0 o.requires.le_k.1 _ c.loop-p.invariant.0 c.loop-p-test.true
+    place_small _ (sound_of _ o.requires.table_sound) _ o.requires.le_k.0 o.requires.le_k.1 _ c.loop-p.invariant.0 c.loop-p-test.true
 
 pub offset_bounds-offs-k : goal.offset_bounds-offs-k
 offset_bounds-offs-k c = omega (arith, (known (goal.at.offset_bounds-offs-k c).Start).shape.there)

@@ -50,7 +50,7 @@ loop-j-init c =
 pub bars_at-requires : goal.bars_at-requires
 bars_at-requires c =
     let o = c in record {
-      offs_value = o.requires.ready.table_sound;
+      table_sound = o.requires.ready.table_sound;
       plain = (o.requires.ready.plains, λ h. row_plain _ _ _ c.row-c.ensures.contents o.requires.le_k.0 o.requires.le_k.1 o.requires.ready.plains (eqb-true _ 1 h));
       m_in_bounds = (o.requires.ready.marks_many, omega arith, c.loop-j.invariant.within);
     }
@@ -64,7 +64,7 @@ returns-then-bars_at c =
 pub next_holder-j-requires : goal.next_holder-j-requires
 next_holder-j-requires c =
     let o = c in record {
-      offs_value = o.requires.ready.table_sound;
+      table_sound = o.requires.ready.table_sound;
       indexed = o.requires.ready.index;
       le_k = (
         omega arith,

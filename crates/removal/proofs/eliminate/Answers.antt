@@ -17,15 +17,15 @@ mark_all-requires c = omega (arith, (sound_of _ (sym c.is_sound.ensures ∙ c.if
 
 pub index_rows-requires : goal.index_rows-requires
 index_rows-requires c = record {
-  offs_value = sym c.is_sound.ensures ∙ c.if-is_sound.true;
-  heads_len = (refl, refl, zeros 4002);
+  table_sound = sym c.is_sound.ensures ∙ c.if-is_sound.true;
+  unlinked = (refl, refl, zeros 4002);
 }
 
 pub mark_plain-requires : goal.mark_plain-requires
 mark_plain-requires c =
     let h = sym c.is_sound.ensures ∙ c.if-is_sound.true in
     record {
-      offs_value = h;
+      table_sound = h;
       m_in_bounds = omega (arith, (sound_of _ h).clauses);
     }
 

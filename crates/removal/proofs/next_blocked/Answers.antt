@@ -8,15 +8,15 @@ use Rattle.removal.proofs.next_blocked.Goals as goal
 
 pub index_rows-requires : goal.index_rows-requires
 index_rows-requires c = record {
-  offs_value = (opened_passed c.open_stack-opened.ensures c.in-Accepted.is).table_sound;
-  heads_len = (refl, refl, zeros 4002);
+  table_sound = (opened_passed c.open_stack-opened.ensures c.in-Accepted.is).table_sound;
+  unlinked = (refl, refl, zeros 4002);
 }
 
 pub mark_plain-requires : goal.mark_plain-requires
 mark_plain-requires c =
     let h = (opened_passed c.open_stack-opened.ensures c.in-Accepted.is).table_sound in
     record {
-      offs_value = h;
+      table_sound = h;
       m_in_bounds = omega (arith, (sound_of _ h).clauses);
     }
 

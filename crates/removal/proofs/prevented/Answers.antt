@@ -7,19 +7,19 @@ use Rattle.removal.proofs.prevented.Goals as goal
 
 pub index_rows-requires : goal.index_rows-requires
 index_rows-requires c = record {
-  offs_value = c.requires.offs_value;
-  heads_len = (refl, refl, zeros 4002);
+  table_sound = c.requires.table_sound;
+  unlinked = (refl, refl, zeros 4002);
 }
 
 pub mark_plain-requires : goal.mark_plain-requires
 mark_plain-requires c = record {
-  offs_value = c.requires.offs_value;
-  m_in_bounds = omega (arith, (sound_of _ c.requires.offs_value).clauses);
+  table_sound = c.requires.table_sound;
+  m_in_bounds = omega (arith, (sound_of _ c.requires.table_sound).clauses);
 }
 
 pub test_literal-requires : goal.test_literal-requires
 test_literal-requires c = record {
-  ready = record { table_sound = c.requires.offs_value; index = c.index_rows.ensures; plains = c.mark_plain.ensures; marks_many = c.requires.m_in_bounds.0; marks_within = c.requires.m_in_bounds.1 };
+  ready = record { table_sound = c.requires.table_sound; index = c.index_rows.ensures; plains = c.mark_plain.ensures; marks_many = c.requires.m_in_bounds.0; marks_within = c.requires.m_in_bounds.1 };
   le_k = c.requires.le_k;
 }
 

@@ -8,8 +8,8 @@ use Rattle.removal.proofs.remove_named.Goals as goal
 
 pub entry_names-requires : goal.entry_names-requires
 entry_names-requires c = record {
-  offs_value = c.requires.passed.table_sound;
-  by_index = open_within c.requires;
+  table_sound = c.requires.passed.table_sound;
+  marks_within = open_within c.requires;
 }
 
 pub overflow_cast-literal : goal.overflow_cast-literal
@@ -18,7 +18,7 @@ overflow_cast-literal c = omega (arith, (pushable c.requires _ _ c.entry_names.e
 pub prevented-requires : goal.prevented-requires
 prevented-requires c =
     let asked = askable c.requires (pushable c.requires _ _ c.entry_names.ensures c.if-entry_names.true) in
-    record { offs_value = asked.0; m_in_bounds = asked.1.0; le_k = asked.1.1 }
+    record { table_sound = asked.0; m_in_bounds = asked.1.0; le_k = asked.1.1 }
 
 pub returns-then-prevented : goal.returns-then-prevented
 returns-then-prevented c = removal_unblocked c.requires (pushable c.requires _ _ c.entry_names.ensures c.if-entry_names.true) c.prevented.ensures c.if-prevented.true

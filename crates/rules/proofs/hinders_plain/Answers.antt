@@ -6,7 +6,7 @@ use Rattle.rules.proofs.hinders_plain.Goals as goal
 pub returns-then-contains : goal.returns-then-contains
 returns-then-contains c =
     ap not c.clashes.ensures
-    ∙ sym (resists_plain _ _ _ _ c.negated-z.ensures c.requires.c_value c.requires.d_value (sym c.contains.ensures ∙ c.if-contains.true))
+    ∙ sym (resists_plain _ _ _ _ c.negated-z.ensures c.requires.c_plain c.requires.d_plain (sym c.contains.ensures ∙ c.if-contains.true))
 
 pub returns : goal.returns
 returns c = sym (resists_absent _ _ _ _ c.negated-z.ensures (sym c.contains.ensures ∙ c.if-contains.false))

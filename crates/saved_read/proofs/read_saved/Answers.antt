@@ -41,7 +41,7 @@ unpack-requires c =
     let s = subst (Scanned _ _ _ _ _ _ _ _) c.in-Done.is c.scan_lines-scan.ensures in
     record {
       remembered = remembered c.args.bytes.now _ _ _ _ g _ _ _ _ s (search rules) (search rules) (search rules);
-      in_bounds = (search rules);
+      room = (search rules);
     }
 
 pub returns-in-Refused : goal.returns-in-Refused

@@ -17,7 +17,7 @@ read_line-line-requires c =
     let q = c.requires in
     record {
       at_in_bounds = g.inside;
-      le_heads = (h.1, h.2, q.variables, g.starts_room, g.full);
+      limits = (h.1, h.2, q.variables, g.starts_room, g.full);
     }
 
 pub returns-in-Refused : goal.returns-in-Refused

@@ -18,7 +18,7 @@ fill_rows-total-requires c =
     record {
       within = q.within;
       m_in_bounds = (sr, er, search rules);
-      m_in_bounds_2 = (simp length-replicate f, search rules);
+      room = (simp length-replicate f, search rules);
     }
 
 pub slice_bounds-rows-end : goal.slice_bounds-rows-end
@@ -60,7 +60,7 @@ hand_out-requires c =
     let v = c.requires.remembered.few in
     record {
       passed = passed_tests c.args.bytes.now c.args.n c.args.m c.args.count c.args.starts.now c.args.ends.now c.args.words.now c.requires.remembered _ _ rows ends;
-      m_bound = (u, omega arith, omega arith, omega arith);
+      room = (u, omega arith, omega arith, omega arith);
     }
 
 pub returns : goal.returns

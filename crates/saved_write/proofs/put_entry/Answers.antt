@@ -32,7 +32,7 @@ pub overflow_cast-k-2 : goal.overflow_cast-k-2
 overflow_cast-k-2 c = omega (arith, (named (goal.at.overflow_cast-k-2 c).Start).high, (sound_of _ c.requires.passed.table_sound).clauses)
 
 pub put_removed_field-requires : goal.put_removed_field-requires
-put_removed_field-requires c = let n = named (goal.at.put_removed_field-requires c).Start in removed_fits _ c.requires.passed.table_sound _ n.low n.high c.row-c.ensures.contents _ c.requires.i_in_bounds
+put_removed_field-requires c = let n = named (goal.at.put_removed_field-requires c).Start in removed_fits _ c.requires.passed.table_sound _ n.low n.high c.row-c.ensures.contents _ c.requires.room
 
 pub returns : goal.returns
 returns c = let n = named (goal.at.returns c).Start in put_same (removed_written _ c.requires.passed.table_sound _ n.low n.high c.row-c.ensures.contents _) c.put_removed_field.ensures

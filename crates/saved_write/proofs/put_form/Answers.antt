@@ -27,23 +27,23 @@ abbrev gone : Start → List ℕ
 gone s = removed_fields (lent s) s.args.stack.now s.args.count
 
 room : (s : Start) → 11 + length (lives s) + length (gone s) + 3 ≤ length s.args.out.now
-room s = form_room (lent s) s.args.stack.now s.args.count s.args.live.now s.requires.fact s.requires.count_in_bounds
+room s = form_room (lent s) s.args.stack.now s.args.count s.args.live.now s.requires.opened s.requires.room
 
 pub overflow_cast-n : goal.overflow_cast-n
-overflow_cast-n c = omega (arith, (sound_of _ c.requires.fact.passed.table_sound).variables)
+overflow_cast-n c = omega (arith, (sound_of _ c.requires.opened.passed.table_sound).variables)
 
 pub overflow_cast-m : goal.overflow_cast-m
-overflow_cast-m c = omega (arith, (sound_of _ c.requires.fact.passed.table_sound).clauses)
+overflow_cast-m c = omega (arith, (sound_of _ c.requires.opened.passed.table_sound).clauses)
 
 pub bounds-offs-m : goal.bounds-offs-m
-bounds-offs-m c = omega (arith, (sound_of _ c.requires.fact.passed.table_sound).shape.there)
+bounds-offs-m c = omega (arith, (sound_of _ c.requires.opened.passed.table_sound).shape.there)
 
 pub overflow_cast-offs : goal.overflow_cast-offs
 unfolding offset
-overflow_cast-offs c = omega (arith, (sound_of _ c.requires.fact.passed.table_sound).total)
+overflow_cast-offs c = omega (arith, (sound_of _ c.requires.opened.passed.table_sound).total)
 
 pub overflow_cast-count : goal.overflow_cast-count
-overflow_cast-count c = omega (arith, (sound_of _ c.requires.fact.passed.table_sound).clauses, c.requires.fact.passed.count)
+overflow_cast-count c = omega (arith, (sound_of _ c.requires.opened.passed.table_sound).clauses, c.requires.opened.passed.count)
 
 pub put_header-requires : goal.put_header-requires
 put_header-requires c = omega (arith, room (goal.at.put_header-requires c).Start)
@@ -56,9 +56,9 @@ slice_bounds-put_live-start c = omega (arith, room (goal.at.slice_bounds-put_liv
 
 pub put_live-gone-requires : goal.put_live-gone-requires
 put_live-gone-requires c = record {
-  offs_value = c.requires.fact.passed.table_sound;
-  m_in_bounds = c.requires.fact.marks_many;
-  m_in_bounds_2 = simp (length-take, length-drop) (omega (arith, room (goal.at.put_live-gone-requires c).Start));
+  table_sound = c.requires.opened.passed.table_sound;
+  m_in_bounds = c.requires.opened.marks_many;
+  room = simp (length-take, length-drop) (omega (arith, room (goal.at.put_live-gone-requires c).Start));
 }
 
 pub overflow_add-gone : goal.overflow_add-gone
@@ -72,8 +72,8 @@ slice_bounds-put_removed-start c = omega (arith, room (goal.at.slice_bounds-put_
 
 pub put_removed-requires : goal.put_removed-requires
 put_removed-requires c = record {
-  passed = c.requires.fact.passed;
-  count_in_bounds = simp (length-take, length-drop) (omega (arith, room (goal.at.put_removed-requires c).Start, c.put_live-gone.ensures.long));
+  passed = c.requires.opened.passed;
+  room = simp (length-take, length-drop) (omega (arith, room (goal.at.put_removed-requires c).Start, c.put_live-gone.ensures.long));
 }
 
 pub overflow_add-end : goal.overflow_add-end
@@ -94,11 +94,11 @@ returns c =
     let a = c.args in
     let o = a.out.now in
     let t = lent (goal.at.returns c).Start in
-    let h = head_fields t a.stack.now a.count a.live.now c.requires.fact in
+    let h = head_fields t a.stack.now a.count a.live.now c.requires.opened in
     let l = lives (goal.at.returns c).Start in
     let g = gone (goal.at.returns c).Start in
     let p₁ : Put h o _ 11 = record { long = sym (length_field 2 1 _); laid = c.put_header.ensures } in
     let p₂ = put_more h l p₁ c.put_live-gone.ensures in
     let p₃ = put_more (h ++ l) g p₂ c.put_removed.ensures in
     tail_laid (h ++ l ++ g) (field 2 end_tag []) o _ _ _ p₃.laid (sym p₃.long) c.put_end.ensures
-    ∙ ap (λ (z : List ℕ). lay z o) (form_whole t a.stack.now a.count a.live.now c.requires.fact)
+    ∙ ap (λ (z : List ℕ). lay z o) (form_whole t a.stack.now a.count a.live.now c.requires.opened)

@@ -16,24 +16,24 @@ loop-i-init c = (omega arith, refl, omega arith, removed_start _ _ _)
 pub put_entry-at-requires : goal.put_entry-at-requires
 put_entry-at-requires c =
     let a = c.args in
-    let r = removed_room (table a.n a.m a.lits.now a.offs.now) a.stack.now c.loop-i.i a.count c.loop-i-test.true c.requires.count_in_bounds c.loop-i.invariant.3 in
+    let r = removed_room (table a.n a.m a.lits.now a.offs.now) a.stack.now c.loop-i.i a.count c.loop-i-test.true c.requires.room c.loop-i.invariant.3 in
     record {
       passed = c.requires.passed;
       i_lt_count = c.loop-i-test.true;
-      i_in_bounds = simp (length-take, length-drop) (omega arith);
+      room = simp (length-take, length-drop) (omega arith);
     }
 
 pub overflow_add-at : goal.overflow_add-at
 overflow_add-at c =
     let a = c.args in
-    let r = removed_room (table a.n a.m a.lits.now a.offs.now) a.stack.now c.loop-i.i a.count c.loop-i-test.true c.requires.count_in_bounds c.loop-i.invariant.3 in
+    let r = removed_room (table a.n a.m a.lits.now a.offs.now) a.stack.now c.loop-i.i a.count c.loop-i-test.true c.requires.room c.loop-i.invariant.3 in
     omega (arith, c.put_entry-at.ensures.long)
 
 pub loop-i-preserved : goal.loop-i-preserved
 loop-i-preserved c =
     let a = c.args in
     let l = c.loop-i in
-    let r = removed_room (table a.n a.m a.lits.now a.offs.now) a.stack.now c.loop-i.i a.count c.loop-i-test.true c.requires.count_in_bounds c.loop-i.invariant.3 in
+    let r = removed_room (table a.n a.m a.lits.now a.offs.now) a.stack.now c.loop-i.i a.count c.loop-i-test.true c.requires.room c.loop-i.invariant.3 in
     let p = put_more (removed_fields (table a.n a.m a.lits.now a.offs.now) a.stack.now l.i) (field 2 3 (removed_line (table a.n a.m a.lits.now a.offs.now) (entry_at a.stack.now l.i))) l.invariant.3 c.put_entry-at.ensures in
     (omega arith, search rules, omega (arith, c.put_entry-at.ensures.long), put_same (sym (removed_more (table a.n a.m a.lits.now a.offs.now) a.stack.now l.i)) p)
 

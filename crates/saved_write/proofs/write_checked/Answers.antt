@@ -41,8 +41,8 @@ returns-then-out-len c = writing_cramped _ _ _ _ c.requires.passed c.first_unblo
 pub put_form-requires : goal.put_form-requires
 unfolding offset
 put_form-requires c = record {
-  fact = checked_open _ _ _ c.requires.passed c.first_unblocked-unblocked.ensures c.if-unblocked-gt0.false (rw c.first_unblocked-unblocked.auto.live c.requires.m_in_bounds);
-  count_in_bounds = room_enough _ _ _ c.args.out.now c.requires.passed c.first_unblocked-unblocked.ensures c.if-unblocked-gt0.false refl c.if-out-len.false;
+  opened = checked_open _ _ _ c.requires.passed c.first_unblocked-unblocked.ensures c.if-unblocked-gt0.false (rw c.first_unblocked-unblocked.auto.live c.requires.m_in_bounds);
+  room = room_enough _ _ _ c.args.out.now c.requires.passed c.first_unblocked-unblocked.ensures c.if-unblocked-gt0.false refl c.if-out-len.false;
 }
 
 pub returns : goal.returns

@@ -15,8 +15,8 @@ loop-i-init c = (reading_start _ _ _ _ _ c.requires, refl)
 
 pub entry_names-requires : goal.entry_names-requires
 entry_names-requires c = record {
-  offs_value = c.requires.table_sound;
-  by_index = reading_within _ _ _ _ _ _ c.loop-i.invariant.0;
+  table_sound = c.requires.table_sound;
+  marks_within = reading_within _ _ _ _ _ _ c.loop-i.invariant.0;
 }
 
 pub overflow_cast-live : goal.overflow_cast-live

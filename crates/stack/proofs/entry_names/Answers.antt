@@ -9,8 +9,8 @@ returns-then-live-k c = sym (names_beyond _ _ _ _ c.if-live-k.true)
 
 pub row-c-requires : goal.row-c-requires
 row-c-requires c = record {
-  shape = (sound_of _ c.requires.offs_value).shape;
-  le_k = c.requires.by_index _ (live_here _ _ c.if-live-k-eq1.true);
+  shape = (sound_of _ c.requires.table_sound).shape;
+  le_k = c.requires.marks_within _ (live_here _ _ c.if-live-k-eq1.true);
 }
 
 pub returns-then-live-k-eq1 : goal.returns-then-live-k-eq1

@@ -6,13 +6,13 @@ use Rattle.stack.proofs.first_unblocked.Goals as goal
 
 pub index_rows-requires : goal.index_rows-requires
 index_rows-requires c = record {
-  offs_value = c.requires.passed.table_sound;
-  heads_len = (refl, refl, zeros 4002);
+  table_sound = c.requires.passed.table_sound;
+  unlinked = (refl, refl, zeros 4002);
 }
 
 pub mark_plain-requires : goal.mark_plain-requires
 mark_plain-requires c = record {
-  offs_value = c.requires.passed.table_sound;
+  table_sound = c.requires.passed.table_sound;
   m_in_bounds = omega (arith, (sound_of _ c.requires.passed.table_sound).clauses);
 }
 
@@ -28,5 +28,5 @@ unblocked_entry-requires c =
         marks_all = marked.ensures;
       };
       indexed = (c.index_rows.ensures, c.mark_plain.ensures);
-      count_value = passed.none_bad;
+      none_bad = passed.none_bad;
     }

@@ -18,13 +18,13 @@ pub overflow_cast-l : goal.overflow_cast-l
 overflow_cast-l c =
     let a = c.args in
     let t = table a.n a.m a.lits.now a.offs.now in
-    code_fits (entry_named t _ _ c.loop-i.i c.requires.lent.table_sound c.requires.count_value c.loop-i-test.true).small
+    code_fits (entry_named t _ _ c.loop-i.i c.requires.lent.table_sound c.requires.none_bad c.loop-i-test.true).small
 
 pub test_literal-requires : goal.test_literal-requires
 test_literal-requires c =
     let a = c.args in
     let t = table a.n a.m a.lits.now a.offs.now in
-    let n = entry_named t _ _ c.loop-i.i c.requires.lent.table_sound c.requires.count_value c.loop-i-test.true in record {
+    let n = entry_named t _ _ c.loop-i.i c.requires.lent.table_sound c.requires.none_bad c.loop-i-test.true in record {
       ready = record {
         table_sound = c.requires.lent.table_sound;
         index = c.requires.indexed.0;
@@ -39,13 +39,13 @@ pub bounds-live-k : goal.bounds-live-k
 bounds-live-k c =
     let a = c.args in
     let t = table a.n a.m a.lits.now a.offs.now in
-    lt_of_le_of_lt (entry_named t _ _ c.loop-i.i c.requires.lent.table_sound c.requires.count_value c.loop-i-test.true).high c.loop-i.invariant.0.many
+    lt_of_le_of_lt (entry_named t _ _ c.loop-i.i c.requires.lent.table_sound c.requires.none_bad c.loop-i-test.true).high c.loop-i.invariant.0.many
 
 pub loop-i-preserved : goal.loop-i-preserved
 loop-i-preserved c =
     let a = c.args in
     let t = table a.n a.m a.lits.now a.offs.now in
-    let n = entry_named t _ _ c.loop-i.i c.requires.lent.table_sound c.requires.count_value c.loop-i-test.true in
+    let n = entry_named t _ _ c.loop-i.i c.requires.lent.table_sound c.requires.none_bad c.loop-i-test.true in
     let y = blocks_tested t (live_of c.loop-i.live) _ _ _ n.holds c.test_literal.ensures ∙ eq-eqb _ 0 c.if-test_literal-eq0.true in
     (reading_next _ _ _ _ _ _ c.loop-i.invariant.0 c.loop-i-test.true y n.high, length-set c.loop-i.live _ 0 ∙ c.loop-i.invariant.1)
 
@@ -53,7 +53,7 @@ pub returns-else-test_literal-eq0 : goal.returns-else-test_literal-eq0
 returns-else-test_literal-eq0 c =
     let a = c.args in
     let t = table a.n a.m a.lits.now a.offs.now in
-    let n = entry_named t _ _ c.loop-i.i c.requires.lent.table_sound c.requires.count_value c.loop-i-test.true in
+    let n = entry_named t _ _ c.loop-i.i c.requires.lent.table_sound c.requires.none_bad c.loop-i-test.true in
     let y = blocks_tested t (live_of c.loop-i.live) _ _ _ n.holds c.test_literal.ensures ∙ ne_eqb _ 0 c.if-test_literal-eq0.false in
     checked_stop _ _ _ _ _ c.loop-i.invariant.0 c.loop-i-test.true y
 

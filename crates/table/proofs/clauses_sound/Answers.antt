@@ -21,14 +21,14 @@ row-c-requires c = record {
 }
 
 pub overflow_cast-k : goal.overflow_cast-k
-overflow_cast-k c = omega (arith, c.requires.n_bound.1)
+overflow_cast-k c = omega (arith, c.requires.limits.1)
 
 pub slice_bounds-clause_sound-end : goal.slice_bounds-clause_sound-end
 slice_bounds-clause_sound-end c = sym c.loop-k.invariant.1
 
 pub clause_sound-requires : goal.clause_sound-requires
 clause_sound-requires c = record {
-  n_bound = (c.requires.n_bound.0, omega arith, c.loop-k.invariant.1);
+  limits = (c.requires.limits.0, omega arith, c.loop-k.invariant.1);
   stamped = λ x. omega (arith, c.loop-k.invariant.2 x);
 }
 

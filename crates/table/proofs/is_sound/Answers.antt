@@ -16,7 +16,7 @@ clauses_sound-requires c =
     let ends : ends_sound base t ≡ true = sym c.ends_sound.ensures ∙ c.if-ends_sound.true in
     record {
       shape = ends_shape t ends (sym c.offsets_rise.ensures ∙ c.if-offsets_rise.true);
-      n_bound = ends_limits t ends;
+      limits = ends_limits t ends;
     }
 
 pub returns-then-offsets_rise : goal.returns-then-offsets_rise

@@ -9,7 +9,7 @@ pub fill_clauses-requires : goal.fill_clauses-requires
 fill_clauses-requires c =
     let v = rw c.in-Accepted.is at c.check_clauses-verdict.ensures in
     record {
-      from_in_bounds = omega arith;
+      limits = omega arith;
       good = v;
     }
 
