@@ -1,8 +1,7 @@
 use mathlib.Core.Path.{refl}
 use Prim.Native.Nat.{◌<◌}
 use native.Mathlib.Omega.{arith}
-use lib.ListN.{length}
-use lib.ListN.{length-set}
+use lib.ListN.{length, length-set}
 use Rattle.table.proofs.Laying.{lay_none, lay_more, lay_done}
 use Rattle.saved_read.proofs.copy_words.Goals as goal
 

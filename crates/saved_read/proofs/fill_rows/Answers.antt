@@ -1,8 +1,7 @@
-use lib.ListN.{set}
+use lib.ListN.{set, length, length-drop, length-take, length-set}
 use mathlib.Core.Path.{◌≡◌, refl, ap, ◌∙◌}
 use Prim.Native.Nat.{ℕ, ◌+◌}
 use native.Mathlib.Omega.{arith}
-use lib.ListN.{length, length-drop, length-take, length-set}
 use Rattle.table.specs.Stack.{lay}
 use Rattle.saved.specs.Reading.{all_literals, all_offsets}
 use Rattle.saved_read.specs.Inner.{part_of}

@@ -1,5 +1,4 @@
-use mathlib.Core.Path.{subst}
-use mathlib.Core.Path.{sym, ◌∙◌}
+use mathlib.Core.Path.{subst, sym, ◌∙◌}
 use native.Mathlib.Omega.{arith}
 use lib.ListN.{length-replicate}
 use Rattle.saved_read.specs.Inner.{Scanned}

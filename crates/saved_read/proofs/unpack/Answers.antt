@@ -4,7 +4,6 @@ use native.Mathlib.Omega.{arith}
 use lib.ListN.{length, length-replicate}
 use Rattle.saved_read.specs.Inner.{part_of}
 use Rattle.saved.proofs.Packed.{length_offsets}
-use Rattle.saved_read.proofs.Whole.{total_fits, passed_tests, handed}
 use borrow.Author.Rules.{rules}
 use Rattle.saved_read.proofs.unpack.Goals as goal
 

@@ -2,7 +2,6 @@ use mathlib.Core.Path.{ap, sym, ◌∙◌}
 use Rattle.words.specs.Numbers.{number}
 use Rattle.text.specs.Clauses.{code_of}
 use Rattle.text.proofs.Codes as Codes
-use Rattle.text.proofs.Codes as Codes
 use Rattle.text.proofs.code_of.Goals as goal
 
 pub returns-in-Bad : goal.returns-in-Bad
