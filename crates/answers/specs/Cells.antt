@@ -11,4 +11,4 @@ cells_of (refused number place) = number ∷ place ∷ 0 ∷ 0 ∷ []
 
 -- the cells of an answer, as the doors hand them on
 abbrev pub four_cells : Answer → List ℕ
-four_cells a = a.number ∷ a.first ∷ a.second ∷ a.third ∷ []
+four_cells a = a.cells

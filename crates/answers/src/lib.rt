@@ -1,125 +1,117 @@
 // What a call answers as four cells: 0 and its values, or the refusal's number and its place, and zeros in the rest.
-#![tactic(auto)]
+#![tactic(auto, unfolding(table::specs::Stack::lay))]
 
-ghost use Rattle.std.specs.Prelude.{◌≡◌, [], ◌∷◌, ◌≤◌, length};
-ghost use Rattle.table.specs.Stack.{lay};
-ghost use Rattle.table.specs.Answer.{answered, paper, verdict};
-ghost use Rattle.removal.specs.Removal.{counted, next_reply};
-ghost use Rattle.text.specs.Text.{read_reply};
-ghost use Rattle.saved_write.specs.Written.{written};
-ghost use Rattle.saved_read.specs.Restored.{restored};
+ghost use Rattle.std.specs.Prelude.{◌≡◌, List, [], ◌∷◌, ℕ, ◌≤◌, length};
+ghost use Rattle.table.specs.Stack.{lay, words};
+ghost use Rattle.table.specs.Answer.{answered, paper, reply_of};
+ghost use Rattle.removal.specs.Removal.{listed};
 ghost use Rattle.answers.specs.Cells.{cells_of, four_cells};
 
-use removal::{Counted, Next};
 use saved_read::Restored;
-use saved_write::Written;
-use table::{Refusal, Verdict};
-use text::Read;
+use table::{Entry, Numbered, Refusal};
+use text::Counts;
 
 // What the first four cells of an answer hold.
-#[derive(Drop)]
+#[derive(Clone, Copy, Debug, PartialEq, Eq)]
 pub struct Answer {
-    pub number: usize,
-    pub first: usize,
-    pub second: usize,
-    pub third: usize,
+    pub cells: [usize; 4],
 }
 
-// The cells of an answer of three values.
-pub fn of_values(first: usize, second: usize, third: usize) -> Answer
-    ensures { four_cells result ≡ cells_of (answered (first ∷ second ∷ third ∷ [])) }
-{
-    Answer {
-        number: 0,
-        first,
-        second,
-        third,
+impl Answer {
+    // The cells of an answer of three values.
+    pub fn of_values(first: usize, second: usize, third: usize) -> Answer
+        ensures { four_cells result ≡ cells_of (answered (first ∷ second ∷ third ∷ [])) }
+    {
+        Answer {
+            cells: [0, first, second, third],
+        }
+    }
+
+    // Lays the answer down.
+    pub fn tell(self, answer: &mut [usize])
+        requires { 4 ≤ length answer.old }
+        ensures { answer.new ≡ lay (four_cells self) answer.old }
+    {
+        answer[..4].copy_from_slice(&self.cells);
     }
 }
 
 // The cells of a refusal.
-pub fn of_refusal(r: Refusal) -> Answer
-    ensures { four_cells result ≡ cells_of (paper r) }
-{
-    let t = table::told(r);
-    Answer {
-        number: t.number,
-        first: t.place,
-        second: 0,
-        third: 0,
+impl From<Refusal> for Answer {
+    ghost from_gives = { λ r answer. four_cells answer ≡ cells_of (paper r) };
+
+    fn from(r: Refusal) -> Answer {
+        let Numbered { number, place } = Numbered::from(r);
+        Answer {
+            cells: [number, place, 0, 0],
+        }
     }
 }
 
-// The cells of each entry's answer.
-pub fn of_verdict(v: Verdict) -> Answer
-    ensures { four_cells result ≡ cells_of (verdict v) }
-{
-    match v {
-        Verdict::Accepted => of_values(0, 0, 0),
-        Verdict::Refused(r) => of_refusal(r),
+// What an entry answers where it does not refuse: at most three values, in the order in which they are told.
+pub trait Values {
+    ghost values: { Self → List ℕ };
+
+    // The cells of these values.
+    fn answer(self) -> Answer
+        ensures { four_cells result ≡ cells_of (answered (values self)) };
+}
+
+// The stack check and rebuild have no value to give.
+impl Values for () {
+    ghost values = { λ _. [] };
+
+    fn answer(self) -> Answer {
+        Answer::of_values(0, 0, 0)
     }
 }
 
-pub fn of_read(read: Read) -> Answer
-    ensures { four_cells result ≡ cells_of (read_reply read) }
-{
-    match read {
-        Read::Table(n, m) => of_values(n, m, 0),
-        Read::Refused(r) => of_refusal(r),
+// Eliminate and remove answer the count of entries, the writer of the saved form its length.
+impl Values for usize {
+    ghost values = { λ count. count ∷ [] };
+
+    fn answer(self) -> Answer {
+        Answer::of_values(self, 0, 0)
     }
 }
 
-pub fn of_counted(c: Counted) -> Answer
-    ensures { four_cells result ≡ cells_of (counted c) }
-{
-    match c {
-        Counted::Count(count) => of_values(count, 0, 0),
-        Counted::Refused(r) => of_refusal(r),
+// The text reader answers the counts of variables and of clauses.
+impl Values for Counts {
+    ghost values = { λ counts. counts.variables ∷ counts.clauses ∷ [] };
+
+    fn answer(self) -> Answer {
+        Answer::of_values(self.variables, self.clauses, 0)
     }
 }
 
-pub fn of_next(next: Next) -> Answer
-    ensures { four_cells result ≡ cells_of (next_reply next) }
-{
-    match next {
-        Next::Blocked(k, l) => of_values(wide(k), wide(l), 0),
-        Next::Stuck => of_values(0, 0, 0),
-        Next::Refused(r) => of_refusal(r),
+// The question answers a clause and the literal that blocks it, or none.
+#[tactic(auto, unfolding(table::specs::Stack::lay, table::specs::Stack::words))]
+impl Values for Option<Entry> {
+    ghost values = { λ entry. words (listed entry) };
+
+    fn answer(self) -> Answer {
+        match self {
+            Some(entry) => Answer::of_values(entry.clause as usize, entry.literal as usize, 0),
+            None => ().answer(),
+        }
     }
 }
 
-pub fn of_written(w: Written) -> Answer
-    ensures { four_cells result ≡ cells_of (written w) }
-{
-    match w {
-        Written::Length(length) => of_values(length, 0, 0),
-        Written::Refused(r) => of_refusal(r),
+// The reader of the saved form answers the counts of variables, clauses and entries.
+impl Values for Restored {
+    ghost values = { λ counts. counts.variables ∷ counts.clauses ∷ counts.removals ∷ [] };
+
+    fn answer(self) -> Answer {
+        Answer::of_values(self.variables, self.clauses, self.removals)
     }
 }
 
-pub fn of_restored(back: Restored) -> Answer
-    ensures { four_cells result ≡ cells_of (restored back) }
+// The cells of what an entry answers: its values, or the refusal.
+pub fn of_result<T: Values>(r: Result<T, Refusal>) -> Answer
+    ensures { four_cells result ≡ cells_of (reply_of T.values r) }
 {
-    match back {
-        Restored::Counts(n, m, c) => of_values(n, m, c),
-        Restored::Refused(r) => of_refusal(r),
+    match r {
+        Ok(told) => told.answer(),
+        Err(refusal) => refusal.into(),
     }
-}
-
-// A stack's word as a number.
-pub fn wide(x: u32) -> usize
-    ensures { result ≡ x }
-{
-    x as usize
-}
-
-// Lays an answer down.
-pub fn tell(answer: &mut [usize], a: Answer)
-    requires { 4 ≤ length answer.old }
-    ensures { answer.new ≡ lay (four_cells a) answer.old }
-{
-    answer[0] = a.number;
-    answer[1] = a.first;
-    answer[2] = a.second;
-    answer[3] = a.third;
 }

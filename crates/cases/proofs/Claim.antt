@@ -1,7 +1,7 @@
 -- The one claim of the table of cases, computed over the definitions. Assumes nothing.
 use mathlib.Core.Path.{◌≡◌, refl}
 use mathlib.Core.Bool.{true}
-use Rattle.rules.specs.Walk.{any, every, every_to, least, upto}
+use Rattle.rules.specs.Walk.{every_to, least, upto}
 use Rattle.rules.specs.Clause.{neg, mem, without, tautology, value, holds, flip}
 use Rattle.rules.specs.Blocking.{resists}
 use Rattle.rules.specs.Book.{one_to, less, after, bars, obstacle, blocks, fault}
@@ -22,5 +22,5 @@ use Rattle.saved.specs.Saved.{writing, unblocked, unpacked, reading}
 use Rattle.cases.specs.Cases.{same_outcome, same_loaded, passes, all_pass, k1, k2, old, done, cases}
 
 pub every_case_passes : all_pass cases ≡ true
-unfolding any every every_to least upto neg mem without tautology value holds flip resists one_to less after bars obstacle blocks fault first_reason turn turns sweeps eliminate next_blocked mended walk fails falsified offset row distinct coded sound_clause rises sound_row sound entries words lay push values_of bytes_of bad_byte bad_value entry_names bad_entry entry_blocks unblocked_entry live_after check elimination removal question rebuilt rebuilding digits number_bytes numbers_from numbers_of field tag_of length_of value_of whole_field head_bytes lines_bytes form_bytes live_lines removed_lines form_of encode head_of head_at head_limits line_length line_limits new_number line_sound line_at read_lines read_form literals_of all_literals all_offsets entries_of table_of stack_of writing unblocked unpacked reading k1 k2 same_reply same_outcome same_loaded passes all_pass old done cases
+unfolding every_to least upto neg mem without tautology value holds flip resists one_to less after bars obstacle blocks fault first_reason turn turns sweeps eliminate next_blocked mended walk fails falsified offset row distinct coded sound_clause rises sound_row sound entries words lay push values_of bytes_of bad_byte bad_value entry_names bad_entry entry_blocks unblocked_entry live_after check elimination removal question rebuilt rebuilding digits number_bytes numbers_from numbers_of field tag_of length_of value_of whole_field head_bytes lines_bytes form_bytes live_lines removed_lines form_of encode head_of head_at head_limits line_length line_limits new_number line_sound line_at read_lines read_form literals_of all_literals all_offsets entries_of table_of stack_of writing unblocked unpacked reading k1 k2 same_reply same_outcome same_loaded passes all_pass old done cases
 every_case_passes = refl

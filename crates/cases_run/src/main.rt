@@ -7,98 +7,62 @@
 mod calls; // calls.rt: each call, and what came of it
 mod limits; // limits.rt: both sides of each limit
 
-use say::lent::same_bytes;
+use lines::Case;
+use std::alloc::Global;
+use table::{Stack, Table};
 
 // Makes the call that a line names, of those that only read the stack.
-fn asks(line: &[u8], call: &[u8], n: usize, m: usize, lits: &[u16], offs: &[u32], stack: &[u32]) {
-    let count = lines::item(line, 6, 0);
-    if same_bytes(call, b"next_blocked") {
-        calls::asks(n, m, lits, offs, stack, count);
+fn reads(
+    rt: &impl Print,
+    alloc: Global,
+    case: Case<'_>,
+    table: &Table<'_>,
+    words: &[u32],
+) -> anyhow::Result<()> {
+    let count = case.item(6, 0)?;
+    let stack = Stack { words, count };
+    match case.field(1) {
+        "next_blocked" => calls::asks(rt, table, &stack)?,
+        "check_stack" => calls::checks(rt, table, &stack)?,
+        "clause_literals" => calls::hands_out(rt, table, count)?,
+        "rebuild" => calls::rebuilds(rt, alloc, case, table, &stack)?,
+        call => anyhow::bail!("no call {call}"),
     }
-    if same_bytes(call, b"check_stack") {
-        say::verdict(stack::check_stack(n, m, lits, offs, stack, count));
-    }
-    if same_bytes(call, b"clause_literals") {
-        calls::hands_out(n, m, lits, offs, count);
-    }
-    if same_bytes(call, b"rebuild") {
-        calls::rebuilds(line, n, m, lits, offs, stack, count);
-    }
+    Ok(())
 }
 
-// Makes the call that a line names, of those that write the stack.
-fn changes(
-    line: &[u8],
-    call: &[u8],
-    n: usize,
-    m: usize,
-    lits: &[u16],
-    offs: &[u32],
-    stack: &mut [u32],
-) {
-    if same_bytes(call, b"eliminate") {
-        calls::eliminates(n, m, lits, offs, stack);
-        return;
+// Makes the call that a line names, and prints a line with what came.
+fn runs(rt: &impl Print, alloc: Global, case: Case<'_>) -> anyhow::Result<()> {
+    let lits = case.items::<u16>(alloc, 3)?;
+    let offs = case.items::<u32>(alloc, 4)?;
+    let mut stack = case.items::<u32>(alloc, 5)?;
+    let table = Table {
+        variables: case.item(2, 0)?,
+        clauses: case.item(2, 1)?,
+        lits: &lits,
+        offs: &offs,
+    };
+    let call = case.field(1);
+    print!(rt; "{}: {call} ", case.field(0))?;
+    match call {
+        "eliminate" => calls::eliminates(rt, &table, &mut stack)?,
+        "remove" => calls::removes(rt, alloc, case, &table, &mut stack)?,
+        _ => reads(rt, alloc, case, &table, &stack)?,
     }
-    if same_bytes(call, b"remove") {
-        calls::removes(line, n, m, lits, offs, stack);
-        return;
-    }
-}
-
-// Makes the call that a line names, on what it has, and prints the line for it.
-fn runs_with(line: &[u8], lits: &[u16], offs: &[u32], stack: &mut [u32]) {
-    let call = lines::piece(line, b'|', 1);
-    let n = lines::item(line, 2, 0);
-    let m = lines::item(line, 2, 1);
-    say::label(lines::piece(line, b'|', 0));
-    say::text(call);
-    say::text(b" ");
-    asks(line, call, n, m, lits, offs, stack);
-    changes(line, call, n, m, lits, offs, stack);
-    say::text(b"\n");
-}
-
-// Lays down what a line has, and makes its call.
-fn runs(line: &[u8]) {
-    let mut lits = [0u16; 10];
-    lines::codes(line, 3, &mut lits);
-    let a = lines::many(line, 3, 10);
-    let mut offs = [0u32; 6];
-    lines::words(line, 4, &mut offs);
-    let b = lines::many(line, 4, 6);
-    let mut stack = [0u32; 20];
-    lines::words(line, 5, &mut stack);
-    let c = lines::many(line, 5, 20);
-    if a <= 10 {
-        if b <= 6 {
-            if c <= 20 {
-                runs_with(line, &lits[0..a], &offs[0..b], &mut stack[0..c]);
-            }
-        }
-    }
+    println!(rt;)?;
+    Ok(())
 }
 
 // Runs each line.
-fn runs_lines(table: &[u8]) {
-    let mut i = 0;
-    while i < table.len() {
-        let line = lines::piece(table, b'\n', i);
-        if line.len() == 0 {
-            return;
-        }
-        if same_bytes(line, b"limits") {
-            limits::run();
+fn main(rt: HostRuntime) -> anyhow::Result<()> {
+    let alloc = rt.alloc();
+    for line in rt.lines(alloc) {
+        let line = line?;
+        if line.as_str() == "limits" {
+            limits::run(&rt, alloc)?;
         } else {
-            runs(line);
+            runs(&rt, alloc, Case { line: &line })?;
         }
-        i += 1;
     }
-}
-
-// Runs it all.
-fn main() {
-    let mut table = [0u8; 8192];
-    let got = io::read_full(0, &mut table);
-    runs_lines(&table[..got]);
+    Ok(())
 }

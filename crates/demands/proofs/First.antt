@@ -1,6 +1,6 @@
 -- Demand 1: a refusal has a number of document 01's table and leaves each lent buffer as it came; and no second answer meets a contract.
 -- Assumes nothing.
-use mathlib.Core.Path.{◌≡◌, refl, sym, ◌∙◌, ap}
+use mathlib.Core.Path.{◌≡◌, refl, sym, ◌∙◌, ap, ap₂}
 use mathlib.Core.Bool.{Bool}
 use mathlib.Core.List.{List, [], ◌∷◌}
 use Prim.Native.Nat.{ℕ, ◌≤◌}
@@ -10,16 +10,14 @@ use Rattle.table.specs.Limits.{base}
 use Rattle.table.specs.Table.{Table, sound, handed_out, handed_from}
 use Rattle.table.specs.Inner.{Stretch}
 use Rattle.table.specs.Answer.{Reply, refused, paper, verdict, Outcome, outcome}
+use Rattle.std.specs.Prelude.{Option, None, Some, Result}
+use Rattle.table.specs.Stack.{words}
+use Rattle.table.specs.declared.Entry.{Entry as LentEntry}
 use Rattle.table.specs.declared.Refusal.{Refusal}
 use Rattle.table.specs.declared.Refusal.TheVariants.{BadText, OverLimit, NoRoom, BadTable, BadStack, NotBlocking, BadName, BadValues, NotModel, BadSaved}
-use Rattle.table.specs.declared.Verdict.{Verdict}
-use Rattle.table.proofs.Answers.{paper_one_to_one, verdict_one_to_one, not_answered, decided_keeps}
+use Rattle.table.proofs.Answers.{reply_one_to_one, verdict_one_to_one, decided_keeps}
 use Rattle.stack.specs.Tests.{check, table_tests}
-use Rattle.removal.specs.Removal.{counted, next_reply, elimination, removal, removal_tests, question}
-use Rattle.removal.specs.declared.Counted.{Counted}
-use Rattle.removal.specs.declared.Counted.TheVariants.{Count, Refused}
-use Rattle.removal.specs.declared.Next.{Next}
-use Rattle.removal.specs.declared.Next.TheVariants.{Blocked, Stuck, Refused as NextRefused}
+use Rattle.removal.specs.Removal.{counted, listed, next_reply, elimination, removal, removal_tests, question}
 use Rattle.rebuild.specs.Rebuild.{rebuilding, rebuild_tests}
 use Rattle.demands.specs.Demands.{RefusalKeeps}
 
@@ -49,22 +47,22 @@ unfolding rebuilding
 rebuild_keeps t ws c vs = decided_keeps (rebuild_tests base t ws c vs) vs _ _
 
 -- the answers are told one to one
-pub counted_one_to_one : (a b : Counted) → counted a ≡ counted b → a ≡ b
-counted_one_to_one (Count a) (Count b) h = cc
-counted_one_to_one (Count a) (Refused r) h = absurd (not_answered r (a ∷ []) h)
-counted_one_to_one (Refused r) (Count b) h = absurd (not_answered r (b ∷ []) (sym h))
-counted_one_to_one (Refused r) (Refused q) h = ap Counted.Refused (paper_one_to_one r q h)
+pub counted_one_to_one : (a b : Result ℕ Refusal) → counted a ≡ counted b → a ≡ b
+counted_one_to_one a b h = reply_one_to_one _ (λ x y e. cc) a b h
 
-pub next_one_to_one : (a b : Next) → next_reply a ≡ next_reply b → a ≡ b
-next_one_to_one (Blocked k l) (Blocked j x) h = cc
-next_one_to_one (Blocked k l) Stuck h = cc
-next_one_to_one (Blocked k l) (NextRefused r) h = absurd (not_answered r (k ∷ l ∷ []) h)
-next_one_to_one Stuck (Blocked j x) h = cc
-next_one_to_one Stuck Stuck h = refl
-next_one_to_one Stuck (NextRefused r) h = absurd (not_answered r [] h)
-next_one_to_one (NextRefused r) (Blocked j x) h = absurd (not_answered r (j ∷ x ∷ []) (sym h))
-next_one_to_one (NextRefused r) Stuck h = absurd (not_answered r [] (sym h))
-next_one_to_one (NextRefused r) (NextRefused q) h = ap Next.Refused (paper_one_to_one r q h)
+-- an entry, or none, is told one to one
+listed_one_to_one : (a b : Option LentEntry) → words (listed a) ≡ words (listed b) → a ≡ b
+unfolding words
+listed_one_to_one None None h = refl
+listed_one_to_one None (Some e) h = cc
+listed_one_to_one (Some d) None h = cc
+listed_one_to_one (Some d) (Some e) h =
+    let k : d.clause ≡ e.clause = cc in
+    let l : d.literal ≡ e.literal = cc in
+    ap₂ (λ (k l : ℕ). Some (record { clause = k; literal = l })) k l
+
+pub next_one_to_one : (a b : Result (Option LentEntry) Refusal) → next_reply a ≡ next_reply b → a ≡ b
+next_one_to_one a b h = reply_one_to_one _ listed_one_to_one a b h
 
 -- No second answer: two answers, with what they leave in the lent buffer, that are both equal to the definition are the same.
 module _ {A : Type 0} (told : A → Reply) (one : (a b : A) → told a ≡ told b → a ≡ b) where
@@ -79,23 +77,23 @@ module _ {A : Type 0} (told : A → Reply) (one : (a b : A) → told a ≡ told 
 pub is_sound_once : (t : Table) (a b : Bool) → a ≡ sound base t → b ≡ sound base t → a ≡ b
 is_sound_once t a b h k = h ∙ sym k
 
-pub eliminate_once : (t : Table) (ws : List ℕ) (a b : Counted) (xs ys : List ℕ)
+pub eliminate_once : (t : Table) (ws : List ℕ) (a b : Result ℕ Refusal) (xs ys : List ℕ)
     → outcome (counted a) xs ≡ elimination base t ws → outcome (counted b) ys ≡ elimination base t ws → (a ≡ b) × (xs ≡ ys)
 eliminate_once t ws = one_outcome counted counted_one_to_one
 
-pub remove_once : (t : Table) (ws : List ℕ) (c k l : ℕ) (a b : Counted) (xs ys : List ℕ)
+pub remove_once : (t : Table) (ws : List ℕ) (c k l : ℕ) (a b : Result ℕ Refusal) (xs ys : List ℕ)
     → outcome (counted a) xs ≡ removal base t ws c k l → outcome (counted b) ys ≡ removal base t ws c k l → (a ≡ b) × (xs ≡ ys)
 remove_once t ws c k l = one_outcome counted counted_one_to_one
 
-pub next_blocked_once : (t : Table) (ws : List ℕ) (c : ℕ) (a b : Next)
+pub next_blocked_once : (t : Table) (ws : List ℕ) (c : ℕ) (a b : Result (Option LentEntry) Refusal)
     → next_reply a ≡ question base t ws c → next_reply b ≡ question base t ws c → a ≡ b
 next_blocked_once t ws c = one_reply next_reply next_one_to_one
 
-pub check_stack_once : (t : Table) (ws : List ℕ) (c : ℕ) (a b : Verdict)
+pub check_stack_once : (t : Table) (ws : List ℕ) (c : ℕ) (a b : Result (Unit {0}) Refusal)
     → verdict a ≡ check base t ws c → verdict b ≡ check base t ws c → a ≡ b
 check_stack_once t ws c = one_reply verdict verdict_one_to_one
 
-pub rebuild_once : (t : Table) (ws : List ℕ) (c : ℕ) (vs : List ℕ) (a b : Verdict) (xs ys : List ℕ)
+pub rebuild_once : (t : Table) (ws : List ℕ) (c : ℕ) (vs : List ℕ) (a b : Result (Unit {0}) Refusal) (xs ys : List ℕ)
     → outcome (verdict a) xs ≡ rebuilding base t ws c vs → outcome (verdict b) ys ≡ rebuilding base t ws c vs → (a ≡ b) × (xs ≡ ys)
 rebuild_once t ws c vs = one_outcome verdict verdict_one_to_one
 

@@ -17,7 +17,8 @@ use Rattle.table.specs.Limits.{base}
 use Rattle.table.specs.Table.{Table, table, offset, row, book_of, sound}
 use Rattle.table.specs.Stack.{entries, words, lay}
 use Rattle.table.specs.Answer.{answered, refused, test, test_at, ◌then◌, unless, outcome, decided}
-use Rattle.table.specs.Res.{Res, fault as faulty, ok}
+use Rattle.std.specs.Prelude.{Ok, Err}
+use Rattle.table.specs.Res.{Res}
 use Rattle.table.specs.declared.Refusal.{Refusal}
 use Rattle.table.specs.declared.Refusal.TheVariants.{NoRoom, BadValues, NotModel, NotBlocking}
 use Rattle.table.proofs.Answers.{not_answered, then_none, test_none, test_at_none}
@@ -175,7 +176,7 @@ longest_form t ws c k = longest t (entries ws c) (passed t ws c k).table_sound (
 -- a form that was read
 record Got (bytes : List ℕ) (b : Buffers) (n m c : ℕ) : Type 0 where
   pub form : Form
-  pub accepted : read_form base narrow bytes ≡ ok form
+  pub accepted : read_form base narrow bytes ≡ Ok form
   pub blocking : unblocked form ≡ 0
   pub words_room : 8000 ≤ length b.stack
   pub left : read_into bytes b ≡ unpacked form b.lits b.offs b.stack
@@ -188,13 +189,13 @@ kept_answered none L O S u vs h = (refl, h)
 kept_answered (some r) L O S u vs h = absurd (not_answered r vs (sym h))
 
 read_form_lem : (x : Res Form) (L O S : List ℕ) (vs : List ℕ) → (accepted x L O S).reply ≡ answered vs
-    → (f : Form) × (x ≡ ok f) × (unblocked f ≡ 0) × ((unpacked f L O S).reply ≡ answered vs)
-read_form_lem (faulty r) L O S vs h = absurd (not_answered r vs (sym h))
-read_form_lem (ok f) L O S vs h =
+    → (f : Form) × (x ≡ Ok f) × (unblocked f ≡ 0) × ((unpacked f L O S).reply ≡ answered vs)
+read_form_lem (Err r) L O S vs h = absurd (not_answered r vs (sym h))
+read_form_lem (Ok f) L O S vs h =
     let q = kept_answered (test_at (unblocked f) NotBlocking) L O S (unpacked f L O S) vs h in
     (f, refl, test_at_none _ _ q.0, q.1)
 
-form_left : (o : Option Refusal) (x : Res Form) (f : Form) (L O S : List ℕ) → o ≡ none → x ≡ ok f → unblocked f ≡ 0 → or_kept o L O S (accepted x L O S) ≡ unpacked f L O S
+form_left : (o : Option Refusal) (x : Res Form) (f : Form) (L O S : List ℕ) → o ≡ none → x ≡ Ok f → unblocked f ≡ 0 → or_kept o L O S (accepted x L O S) ≡ unpacked f L O S
 form_left o x f L O S a b d = rw (a, b, d)
 
 words_enough : (L O S : List ℕ) → room_tests base L O S ≡ none → 8000 ≤ length S

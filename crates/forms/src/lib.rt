@@ -1,111 +1,103 @@
-// Saved forms written and read, and what came of it printed. A buffer's old contents are sevens.
+// Saved forms read into buffers of sevens, and what came of it printed.
 #![tactic(auto)]
 
-use saved_read::Restored;
-use saved_write::Written;
-use say::lent;
+ghost use Rattle.std.specs.Prelude.{◌≡◌, IfOk, vec_len};
+ghost use Rattle.table.specs.Limits.{base};
+ghost use Rattle.saved.specs.Field.{narrow};
+ghost use Rattle.saved.specs.Saved.{loaded, reading};
+ghost use Rattle.saved_read.specs.Restored.{restored};
 
-// Prints whether what should be as it came is so, and ends the line.
-pub fn kept(yes: bool) {
-    say::whether(yes, b"; kept\n", b"; CHANGED\n");
-}
+use saved_read::{Restored, read_saved};
+use say::lent::Buffers;
+use say::{Contents, Items};
+use std::alloc::{AllocError, Global};
+use std::{fmt, io};
+use table::Refusal;
 
-// Whether the reader's three buffers are as they came from three places on.
-pub fn all_kept(lits: &[u16], a: usize, offs: &[u32], b: usize, stack: &[u32], c: usize) -> bool {
-    if lent::codes_kept(lits, a) {
-        if lent::words_kept(offs, b) {
-            return lent::words_kept(stack, c);
-        }
-    }
-    false
-}
+// Whether what should be as it came is so.
+#[derive(Clone, Copy, Debug)]
+pub struct Kept(pub bool);
 
-// Prints whether what is behind a table and its stack in the reader's buffers is as it came, and ends the line.
-pub fn rest(m: usize, lits: &[u16], offs: &[u32], stack: &[u32], count: usize) {
-    if m <= 4000 {
-        if count <= 4000 {
-            kept(all_kept(lits, lent::total(offs, m), offs, m + 1, stack, 2 * count));
-        }
+impl fmt::Display for Kept {
+    fn fmt<W: fmt::Write>(&self, f: &mut fmt::Formatter<W>) -> fmt::Result {
+        f.write_str(if self.0 { "; kept" } else { "; CHANGED" })
     }
 }
 
-// Prints a refusal and whether the reader's buffers are as they came, and ends the line.
-pub fn refused(r: table::Refusal, lits: &[u16], offs: &[u32], stack: &[u32]) {
-    say::refusal(r);
-    kept(all_kept(lits, 0, offs, 0, stack, 0));
-}
+// What was read, in counts.
+#[derive(Clone, Copy, Debug)]
+pub struct Counted(pub Restored);
 
-// Prints the counts of variables, clauses and removals that were read.
-pub fn counts(n: usize, m: usize, count: usize) {
-    say::text(b"reads ");
-    say::count(n, b" variables, ");
-    say::count(m, b" clauses, ");
-    say::count(count, b" removals");
-}
-
-// Prints a table and its stack: a small table whole, a large one by its number of literals.
-fn contents(m: usize, total: usize, lits: &[u16], offs: &[u32], stack: &[u32], count: usize) {
-    say::contents(m, lits, offs, total);
-    if say::is_small(m, total) {
-        if count <= 20 {
-            say::text(b"; stack");
-            say::words(stack, 2 * count);
-        }
+impl fmt::Display for Counted {
+    fn fmt<W: fmt::Write>(&self, f: &mut fmt::Formatter<W>) -> fmt::Result {
+        let Restored {
+            variables,
+            clauses,
+            removals,
+        } = self.0;
+        write!(
+            f,
+            "reads {variables} variables, {clauses} clauses, {removals} removals"
+        )
     }
+}
+
+// Buffers that have exactly the room asked for.
+pub fn buffers(alloc: Global) -> Result<Buffers, AllocError>
+    ensures lits { IfOk result (λ b. vec_len b.lits ≡ 16000) }
+    ensures offs { IfOk result (λ b. vec_len b.offs ≡ 4001) }
+    ensures stack { IfOk result (λ b. vec_len b.stack ≡ 8000) }
+{
+    Buffers::new(alloc, 16000, 4001, 8000)
 }
 
 // Reads a form into lent buffers.
+pub fn read(form: &[u8], buffers: &mut Buffers) -> Result<Restored, Refusal>
+    ensures { loaded (restored result) buffers.new.lits.items buffers.new.offs.items buffers.new.stack.items
+        ≡ reading base narrow form.now buffers.old.lits.items buffers.old.offs.items buffers.old.stack.items }
+{
+    read_saved(
+        form,
+        &mut buffers.lits,
+        &mut buffers.offs,
+        &mut buffers.stack,
+    )
+}
+
+// Reads a form into lent buffers, and prints a line with what came.
 pub fn reads_into(
-    label: &[u8],
+    rt: &impl Print,
+    label: &str,
     form: &[u8],
-    lits: &mut [u16],
-    offs: &mut [u32],
-    stack: &mut [u32],
-) {
-    say::label(label);
-    match saved_read::read_saved(form, lits, offs, stack) {
-        Restored::Counts(n, m, count) => {
-            counts(n, m, count);
-            contents(m, lent::total(offs, m), lits, offs, stack, count);
-            rest(m, lits, offs, stack, count);
+    buffers: &mut Buffers,
+) -> io::Result<()> {
+    match read(form, buffers) {
+        Ok(counts) => {
+            let left = buffers.left(counts.variables, counts.clauses, counts.removals);
+            print!(rt; "{label}: {}{}", Counted(counts), Contents(&left.table))?;
+            if say::is_small(&left.table) {
+                print!(rt; "; stack{}", Items(left.stack))?;
+            }
+            println!(rt; "{}", Kept(left.is_rest_kept))
         }
-        Restored::Refused(r) => refused(r, lits, offs, stack),
+        Err(refusal) => println!(rt; "{label}: {refusal}{}", Kept(buffers.are_kept())),
     }
 }
 
-// Reads the bytes up to a place into buffers that have exactly the room asked for.
-pub fn reads(label: &[u8], t: &[u8], end: usize) {
-    let mut lits = [7u16; 16000];
-    let mut offs = [7u32; 4001];
-    let mut stack = [7u32; 8000];
-    if end <= t.len() {
-        reads_into(label, &t[0..end], &mut lits, &mut offs, &mut stack);
-    }
+// Reads a form into buffers that have exactly the room asked for, and prints a line with what came.
+pub fn reads(rt: &impl Print, alloc: Global, label: &str, form: &[u8]) -> io::Result<()> {
+    reads_into(rt, label, form, &mut buffers(alloc)?)
 }
 
-// Writes into an output of sevens, prints a verb and the form's length, and answers the length; or prints the refusal, and answers 0.
-pub fn writes(
-    label: &[u8],
-    verb: &[u8],
-    n: usize,
-    m: usize,
-    lits: &[u16],
-    offs: &[u32],
-    stack: &[u32],
-    count: usize,
-    out: &mut [u8],
-) -> usize {
-    say::label(label);
-    match saved_write::write_saved(n, m, lits, offs, stack, count, out) {
-        Written::Length(len) => {
-            say::text(verb);
-            say::count(len, b" bytes");
-            len
-        }
-        Written::Refused(r) => {
-            say::refusal(r);
-            kept(lent::bytes_kept(out, 0));
-            0
-        }
+#[cfg(test)]
+mod tests {
+    use super::*;
+    use std::test::Fail;
+
+    #[test]
+    fn buffers_are_there(rt: HostRuntime) -> Result<(), Fail> {
+        let buffers = buffers(rt.alloc())?;
+        assert_eq!(rt; buffers.offs.len(), 4001);
+        Ok(())
     }
 }

@@ -1,6 +1,6 @@
 -- Marks of the plain clauses: a clause without a clash, literal by literal, and one mark more. Assumes nothing.
 use mathlib.Core.Path.{◌≡◌, refl, sym, ◌∙◌}
-use mathlib.Core.Bool.{true, false}
+use mathlib.Core.Bool.{Bool, true, false}
 use mathlib.Core.List.{List}
 use mathlib.Core.Logic.{◌⊎◌, inl, inr}
 use Prim.Native.Nat.{ℕ, suc, ◌+◌, ◌≤◌, ◌<◌}
@@ -9,7 +9,6 @@ use native.Mathlib.Omega.{arith}
 use borrow.Author.Tests.{eqb-true, eq-eqb, ne_eqb}
 use lib.ListN.{length, get_or, take, set}
 use lib.Seq.{take_all, get_or-set_same, get_or-set_other}
-use Rattle.rules.specs.Walk.{any}
 use Rattle.rules.specs.Clause.{Clause, neg, mem, tautology}
 use Rattle.rules.specs.Proposition.{◌∈◌}
 use Rattle.rules.proofs.Logic.{by_eq, by_or, differ, and_true, or_true, not_false}
@@ -28,7 +27,7 @@ unfolding neg
 neg_other x e = omega arith
 
 pub plain_none : (C : Clause) → tautology (take 0 C) ≡ false
-unfolding tautology any
+unfolding tautology
 plain_none C = refl
 
 -- one literal more, whose negation is not among those before it
@@ -75,13 +74,13 @@ module _ (t : Table) (k : ℕ) (C : Clause) (whole : C ≡ row t k) (low : 1 ≤
   pub row_sound : Sound t → sound_clause base t.variables C ≡ true
   row_sound s = rw whole (s.clause k low high)
 
-  pub row_plain : {ms : List ℕ} → Plain t ms → get_or ms k 0 ≡ 1 → tautology C ≡ false
+  pub row_plain : {ms : List Bool} → Plain t ms → get_or ms k false ≡ true → tautology C ≡ false
   row_plain p h = rw whole (p.told k low high h)
 
 -- one mark more
-pub plain_mark : (t : Table) (ms : List ℕ) (k : ℕ) (C : Clause) → C ≡ row t (k + 1) → (r : ℕ) → (r ≡ 1 → tautology C ≡ false) → k + 1 < length ms
+pub plain_mark : (t : Table) (ms : List Bool) (k : ℕ) (C : Clause) → C ≡ row t (k + 1) → (r : Bool) → (r ≡ true → tautology C ≡ false) → k + 1 < length ms
     → PlainTo t ms k → PlainTo t (set ms (k + 1) r) (k + 1)
 plain_mark t ms k C w r f h p j a b e =
     by_eq j (k + 1)
-    (λ q. rw (q, ← w) (f (sym (get_or-set_same ms (k + 1) r 0 h) ∙ rw q at e)))
-    (λ n. p j a (omega arith) (sym (get_or-set_other ms (k + 1) j r 0 n) ∙ e))
+    (λ q. rw (q, ← w) (f (sym (get_or-set_same ms (k + 1) r false h) ∙ rw q at e)))
+    (λ n. p j a (omega arith) (sym (get_or-set_other ms (k + 1) j r false n) ∙ e))

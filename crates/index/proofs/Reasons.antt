@@ -1,14 +1,14 @@
 -- The test of one clause, and the first literal that blocks one, as a loop over its literals meets it. Assumes nothing.
-use mathlib.Core.Path.{◌≡◌, refl, sym, ◌∙◌, ap}
+use mathlib.Core.Path.{◌≡◌, sym, ◌∙◌, ap}
 use mathlib.Core.Bool.{Bool, true, false}
-use mathlib.Core.List.{List, [], ◌∷◌}
+use mathlib.Core.List.{List, []}
 use mathlib.Core.Logic.{◌≢◌}
-use Prim.Native.Nat.{ℕ, zero, suc, ◌+◌, ◌≤◌, ◌<◌}
+use Prim.Native.Nat.{ℕ, ◌+◌, ◌≤◌, ◌<◌}
 use native.Mathlib.Numerals.{add-one}
-use native.Mathlib.Omega.{arith}
 use borrow.Author.Tests.{ne_eqb}
 use lib.ListN.{length, get_or, drop, drop_of_length-le}
 use lib.Seq.{drop-cons}
+use Rattle.std.specs.Prelude.{None, Some}
 use Rattle.rules.specs.Clause.{Clause, neg, mem}
 use Rattle.rules.specs.Blocking.{resists, literal}
 use Rattle.rules.specs.Book.{Book, Live, Entry, bars, obstacle, blocks}
@@ -16,7 +16,6 @@ use Rattle.rules.specs.Elimination.{first_reason, turn}
 use Rattle.rules.proofs.Logic.{and_no}
 use Rattle.rules.proofs.Members.{own_at}
 use Rattle.table.specs.Table.{Table, row, book_of}
-use Rattle.table.proofs.Soundness.{Sound, literal_coded}
 use Rattle.index.specs.Index.{entry_of}
 
 module _ (b : Book) (L : Live) (C : Clause) (l j : ℕ) where
@@ -37,11 +36,6 @@ module _ (b : Book) (L : Live) (C : Clause) (l j : ℕ) where
   pub bars_told : (D : Clause) (r : Bool) → D ≡ C → r ≡ bars literal b L D l j → bars literal b L C l j ≡ r
   bars_told D r e h = rw (← e) (sym h)
 
--- the code of a literal is not 0
-pub entry_of_lem : (k l : ℕ) → 1 ≤ l → entry_of k l ≡ (k, l) ∷ []
-entry_of_lem k zero h = absurd (omega arith)
-entry_of_lem k (suc l) h = refl
-
 -- what clause k's turn comes to
 module _ (b : Book) (L : Live) (k : ℕ) where
   pub turn_live : L k ≡ true → turn literal b L k ≡ first_reason literal b L k (b.clause k)
@@ -57,19 +51,18 @@ module _ (t : Table) (L : Live) (k : ℕ) (D : Clause) (whole : D ≡ row t k) (
   abbrev first : Clause → List (Entry literal)
   first C = first_reason literal (book_of t) L k C
 
-  pub reason_here : Sound t → 1 ≤ k → k ≤ t.clauses → (r : ℕ) → i < length D → r ≡ obstacle literal (book_of t) L k (get_or D i 0) → r ≡ 0
-      → first (drop i D) ≡ first D → entry_of k (get_or D i 0) ≡ first (row t k)
+  pub reason_here : i < length D → obstacle literal (book_of t) L k (get_or D i 0) ≡ 0
+      → first (drop i D) ≡ first D → entry_of k (Some (get_or D i 0)) ≡ first (row t k)
   unfolding first_reason blocks
-  reason_here s low high r h e z q =
-      let own = own_at (row t k) D whole i h in
-      entry_of_lem k (get_or D i 0) (omega (arith, (literal_coded t s k (get_or D i 0) low high own).0)) ∙ sym (rw (drop-cons D i 0, own, ← e, z)) ∙ q ∙ ap first whole
+  reason_here h e q =
+      sym (rw (drop-cons D i 0, own_at (row t k) D whole i h, e)) ∙ q ∙ ap first whole
 
-  pub reason_next : (r : ℕ) → i < length D → r ≡ obstacle literal (book_of t) L k (get_or D i 0) → r ≢ 0
+  pub reason_next : i < length D → obstacle literal (book_of t) L k (get_or D i 0) ≢ 0
       → first (drop i D) ≡ first D → first (drop (i + 1) D) ≡ first D
   unfolding first_reason blocks
-  reason_next r h e n q =
-      sym (rw (add-one, drop-cons D i 0, ← e, ne_eqb r 0 n, and_no)) ∙ q
+  reason_next h e q =
+      sym (rw (add-one, drop-cons D i 0, ne_eqb _ 0 e, and_no)) ∙ q
 
-  pub reason_none : length D ≤ i → first (drop i D) ≡ first D → entry_of k 0 ≡ first (row t k)
+  pub reason_none : length D ≤ i → first (drop i D) ≡ first D → entry_of k None ≡ first (row t k)
   unfolding first_reason
   reason_none h q = sym (rw (drop_of_length-le D h)) ∙ q ∙ ap first whole

@@ -1,123 +1,70 @@
 // A table and its stack written, and read back into fresh buffers.
-use saved_read::Restored;
-use say::lent;
+use forms::{Counted, Kept};
+use saved_write::write_saved;
+use say::lent::{Left, all_are, cut, total};
+use std::alloc::Global;
+use std::io;
+use table::{Stack, Table};
 
-// One more, where there is one; no count here comes near the bound.
-pub fn counted(many: usize, one_more: bool) -> usize {
-    if one_more {
-        if many < 65535 {
-            return many + 1;
-        }
-    }
-    many
-}
-
-// Whether two literal codes at a place are the same.
-fn same_code(a: &[u16], b: &[u16], i: usize) -> bool {
-    if i < a.len() {
-        if i < b.len() {
-            return a[i] == b[i];
-        }
-    }
-    false
-}
-
-// How many of the first so many literal codes are the same.
-fn same_codes(a: &[u16], b: &[u16], many: usize) -> usize {
-    let mut same = 0;
-    let mut i = 0;
-    while i < many {
-        same = counted(same, same_code(a, b, i));
-        i += 1;
-    }
-    same
-}
-
-// Prints how many of so many literals came back.
-fn say_codes(lits: &[u16], read_lits: &[u16], total: usize) {
-    say::text(b"; ");
-    say::count(same_codes(lits, read_lits, total), b" of ");
-    say::count(total, b" literals came back");
+// How many of a table's literals came back.
+fn literals_back(table: &Table<'_>, left: &Left<'_>) -> usize {
+    let (lits, _) = cut(table.lits, total(table));
+    lits.iter()
+        .zip(left.table.lits)
+        .filter(|(lent, read)| lent == read)
+        .count()
 }
 
 // Whether the offsets and the stack came back.
-fn same_words(
-    m: usize,
-    offs: &[u32],
-    stack: &[u32],
-    count: usize,
-    read_offs: &[u32],
-    read_stack: &[u32],
-) -> bool {
-    if m <= 4000 {
-        if count <= 4000 {
-            if lent::same_words(offs, read_offs, m + 1) {
-                return lent::same_words(stack, read_stack, 2 * count);
+fn are_words_back(table: &Table<'_>, stack: &Stack<'_>, left: &Left<'_>) -> bool {
+    let (offs, _) = cut(table.offs, table.clauses.saturating_add(1));
+    let (words, _) = cut(stack.words, stack.count.saturating_mul(2));
+    offs == left.table.offs && words == left.stack
+}
+
+// Prints how much of a table and its stack came back, and ends the line.
+fn compares(
+    rt: &impl Print,
+    table: &Table<'_>,
+    stack: &Stack<'_>,
+    left: &Left<'_>,
+) -> io::Result<()> {
+    let words = if are_words_back(table, stack, left) {
+        "same offsets and stack"
+    } else {
+        "OTHER OFFSETS OR STACK"
+    };
+    println!(rt;
+        "; {} of {} literals came back, {words}{}",
+        literals_back(table, left),
+        total(table),
+        Kept(left.is_rest_kept)
+    )
+}
+
+// Writes a table and its stack, reads the form into fresh buffers, and prints a line with what came back.
+pub fn comes_back(
+    rt: &impl Print,
+    alloc: Global,
+    label: &str,
+    table: &Table<'_>,
+    stack: &Stack<'_>,
+    out: &mut [u8],
+) -> io::Result<()> {
+    match write_saved(table, stack, out) {
+        Ok(len) => {
+            print!(rt; "{label}: {len} bytes; ")?;
+            let mut buffers = forms::buffers(alloc)?;
+            let (form, _) = cut(out, len);
+            match forms::read(form, &mut buffers) {
+                Ok(counts) => {
+                    print!(rt; "{}", Counted(counts))?;
+                    let left = buffers.left(counts.variables, counts.clauses, counts.removals);
+                    compares(rt, table, stack, &left)
+                }
+                Err(refusal) => println!(rt; "{refusal}{}", Kept(buffers.are_kept())),
             }
         }
-    }
-    false
-}
-
-// Prints how much of a table and its stack came back.
-fn say_same(
-    m: usize,
-    lits: &[u16],
-    offs: &[u32],
-    stack: &[u32],
-    count: usize,
-    read_lits: &[u16],
-    read_offs: &[u32],
-    read_stack: &[u32],
-) {
-    say_codes(lits, read_lits, lent::total(offs, m));
-    say::whether(
-        same_words(m, offs, stack, count, read_offs, read_stack),
-        b", same offsets and stack",
-        b", OTHER OFFSETS OR STACK",
-    );
-    forms::rest(m, read_lits, read_offs, read_stack, count);
-}
-
-// Reads a form into fresh buffers, beside the table and the stack that it was written from.
-fn returns(m: usize, lits: &[u16], offs: &[u32], stack: &[u32], count: usize, form: &[u8]) {
-    let mut read_lits = [7u16; 16000];
-    let mut read_offs = [7u32; 4001];
-    let mut read_stack = [7u32; 8000];
-    say::text(b"; ");
-    match saved_read::read_saved(form, &mut read_lits, &mut read_offs, &mut read_stack) {
-        Restored::Counts(n, k, c) => {
-            forms::counts(n, k, c);
-            say_same(
-                m,
-                lits,
-                offs,
-                stack,
-                count,
-                &read_lits,
-                &read_offs,
-                &read_stack,
-            );
-        }
-        Restored::Refused(r) => forms::refused(r, &read_lits, &read_offs, &read_stack),
-    }
-}
-
-// Writes a table and its stack, reads the form into fresh buffers, and compares.
-pub fn comes_back(
-    label: &[u8],
-    n: usize,
-    m: usize,
-    lits: &[u16],
-    offs: &[u32],
-    stack: &[u32],
-    count: usize,
-    out: &mut [u8],
-) {
-    let len = forms::writes(label, b"", n, m, lits, offs, stack, count, out);
-    if 0 < len {
-        if len <= out.len() {
-            returns(m, lits, offs, stack, count, &out[0..len]);
-        }
+        Err(refusal) => println!(rt; "{label}: {refusal}{}", Kept(all_are(out, &7))),
     }
 }

@@ -1,62 +1,67 @@
 // Forms with long clauses laid down by hand, field by field.
 use say::lay;
+use std::alloc::{AllocError, Global};
 
-// Lays a number, high byte first.
-fn number(t: &mut [u8], at: usize, x: u16) -> usize {
-    let next = lay::byte(t, at, (x / 256) as u8);
-    lay::byte(t, next, (x % 256) as u8)
+// What a clause's field says of it.
+#[derive(Clone, Copy, Debug, PartialEq, Eq)]
+pub enum Kind {
+    Live,
+    Removed,
 }
 
-// Lays a header's field.
-pub fn header(t: &mut [u8], n: u16, m: u16, total: u16, removals: u16) -> usize {
-    let a = lay::bytes(t, 0, b"\x01\x00\x08");
-    let b = number(t, a, n);
-    let c = number(t, b, m);
-    let d = number(t, c, total);
-    number(t, d, removals)
+// A form so far.
+#[derive(Debug, Drop)]
+pub struct Form {
+    pub bytes: Vec<u8>,
 }
 
-// Lays the first so many literals of a long clause.
-fn codes(t: &mut [u8], at: usize, many: usize) -> usize {
-    let mut next = at;
-    let mut i = 0;
-    while i < many {
-        next = number(t, next, lay::code(i));
-        i += 1;
+impl Form {
+    // A form with a header's field.
+    pub fn new(
+        alloc: Global,
+        variables: u16,
+        clauses: u16,
+        literals: u16,
+        removals: u16,
+    ) -> Result<Self, AllocError> {
+        let mut form = Form {
+            bytes: Vec::from_slice(alloc, b"\x01\x00\x08")?,
+        };
+        for number in [variables, clauses, literals, removals] {
+            form.put(number)?;
+        }
+        Ok(form)
     }
-    next
-}
 
-// Lays the field of a clause with so many literals: live, or removed by its first literal.
-pub fn clause(t: &mut [u8], at: usize, live: bool, k: u16, many: u16) -> usize {
-    if 2000 < many {
-        return at;
+    // Puts a number behind it, high byte first.
+    fn put(&mut self, number: u16) -> Result<(), AllocError> {
+        self.bytes.extend_from_slice(&number.to_be_bytes())
     }
-    if live {
-        let a = lay::byte(t, at, 2);
-        let b = number(t, a, 2 * many + 2);
-        let c = number(t, b, k);
-        return codes(t, c, many as usize);
-    }
-    let a = lay::byte(t, at, 3);
-    let b = number(t, a, 2 * many + 4);
-    let c = number(t, b, k);
-    let d = number(t, c, lay::code(0));
-    codes(t, d, many as usize)
-}
 
-// Lays the fields of 16 clauses of 1,000 literals, all live or all removed.
-pub fn clauses(t: &mut [u8], at: usize, live: bool) -> usize {
-    let mut next = at;
-    let mut k: u16 = 0;
-    while k < 16 {
-        k += 1;
-        next = clause(t, next, live, k, 1000);
+    // Puts the field of clause k with so many literals behind it: live, or removed by its first literal.
+    pub fn put_clause(&mut self, kind: Kind, k: u16, many: u16) -> Result<(), AllocError> {
+        let len = many.saturating_mul(2);
+        match kind {
+            Kind::Live => {
+                self.bytes.push(2)?;
+                self.put(len.saturating_add(2))?;
+                self.put(k)?;
+            }
+            Kind::Removed => {
+                self.bytes.push(3)?;
+                self.put(len.saturating_add(4))?;
+                self.put(k)?;
+                self.put(lay::code(0))?;
+            }
+        }
+        for i in 0..many {
+            self.put(lay::code(usize::from(i)))?;
+        }
+        Ok(())
     }
-    next
-}
 
-// Lays the end's field.
-pub fn end(t: &mut [u8], at: usize) -> usize {
-    lay::bytes(t, at, b"\x7F\x00\x00")
+    // Puts the end's field behind it.
+    pub fn put_end(&mut self) -> Result<(), AllocError> {
+        self.bytes.extend_from_slice(b"\x7F\x00\x00")
+    }
 }

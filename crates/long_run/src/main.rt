@@ -2,13 +2,15 @@
 // is shrunk, saved, read back and rebuilt. It prints what came, and whether the lent buffers are as they should be. A buffer's old contents are sevens.
 #![tactic(auto)]
 
-mod form; // form.rt: forms with long clauses laid down by hand
 mod back; // back.rt: a table and its stack written, and read back
-mod limits; // limits.rt: both sides of each limit
 mod book; // book.rt: a book with a rule of 1,000 literals
+mod form; // form.rt: forms with long clauses laid down by hand
+mod limits; // limits.rt: both sides of each limit
+
+use std::io;
 
 // Runs it all.
-fn main() {
-    limits::run();
-    book::run();
+fn main(rt: HostRuntime) -> io::Result<()> {
+    limits::run(&rt, rt.alloc())?;
+    book::run(&rt, rt.alloc())
 }

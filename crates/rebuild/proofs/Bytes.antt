@@ -8,7 +8,6 @@ use borrow.Author.Tests.{eq-eqb, ne_eqb, leb-true, le-leb, lt-leb}
 use lib.Dec.{eqb, leb}
 use lib.ListN.{length, get_or, take, drop, set, get_or-append, take-append-drop}
 use lib.Seq.{get_or-set_same, get_or-set_other, get_or-take, length-take-le, ext_get_or}
-use Rattle.rules.specs.Walk.{any}
 use Rattle.rules.specs.Clause.{Clause, Values, mem, value, holds, flip}
 use Rattle.rules.proofs.Logic.{by_bool, by_eq, differ}
 use Rattle.rules.proofs.Walks.{length_upto, get_d_upto, least_none}
@@ -29,6 +28,8 @@ value_even vs l h e = rw e (values_of_at vs (l / 2) (omega arith))
 pub value_odd : (vs : List ℕ) (l : ℕ) → 2 ≤ l → (l % 2 ≡ 0 → ⊥) → value (values_of vs) l ≡ not (eqb (get_or vs (l / 2 - 1) 0) 1)
 unfolding value
 value_odd vs l h n = rw (ne_eqb (l % 2) 0 n) (ap not (values_of_at vs (l / 2) (omega arith)))
+
+pub ruleset value_tests = (value_even, value_odd)
 
 -- a flipped byte is a flipped variable
 pub flipped : (vs : List ℕ) (l : ℕ) → 1 ≤ l / 2 → l / 2 ≤ length vs → get_or vs (l / 2 - 1) 0 ≤ 1
@@ -64,7 +65,7 @@ values_laid v n vs (suc i) l u =
 
 -- values that agree on a clause's variables agree on the clause
 pub holds_agree : (v w : Values) (C : Clause) → ((x : ℕ) → mem x C ≡ true → v (x / 2) ≡ w (x / 2)) → holds v C ≡ holds w C
-unfolding holds any value
+unfolding holds value
 holds_agree v w [] h = refl
 holds_agree v w (y ∷ C) h = rw (h y (mem_here y C), holds_agree v w C (λ x m. h x (mem_skip x y C m)))
 
@@ -87,6 +88,8 @@ byte_bad vs i h = let e : i + 1 - 1 ≡ i = omega arith in rw (e, lt-leb (get_or
 pub byte_good : (vs : List ℕ) (i : ℕ) → get_or vs i 0 ≤ 1 → bad_byte vs (i + 1) ≡ false
 unfolding bad_byte
 byte_good vs i h = let e : i + 1 - 1 ≡ i = omega arith in rw (e, le-leb (get_or vs i 0) 1 h)
+
+pub ruleset byte_tests = (byte_bad, byte_good)
 
 -- bytes that are 0 or 1 are those of the values that they carry
 byte_value : (x : ℕ) → x ≤ 1 → x ≡ cond (eqb x 1) 1 0

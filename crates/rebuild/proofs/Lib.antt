@@ -2,3 +2,4 @@ pub mod Bytes
 pub mod Rows
 pub mod Replay
 pub mod Refusals
+pub mod Lowest

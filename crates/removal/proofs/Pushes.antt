@@ -1,6 +1,6 @@
 -- Entries pushed one after the other: a push is two stores, and pushes from an empty stack on lay the entries' words down. Assumes nothing.
 use mathlib.Core.Path.{◌≡◌, refl, sym, ◌∙◌, ap, ap₂}
-use mathlib.Core.Bool.{Bool}
+use mathlib.Core.Bool.{Bool, false}
 use mathlib.Core.List.{List, [], ◌∷◌, ◌++◌, append_assoc}
 use Prim.Native.Nat.{ℕ, suc, ◌+◌, ◌*◌, ◌≤◌, ◌<◌}
 use native.Mathlib.Omega.{arith}
@@ -53,15 +53,15 @@ pub push_all_lay : (ws : List ℕ) (s : List (Entry literal)) → 2 * length s �
 push_all_lay ws s h = lay_behind [] ws 0 s refl h
 
 -- removals made: none, one, and some after others
-pub made_none : {marks ws : List ℕ} {c : ℕ} → Made [] marks ws c marks ws c
+pub made_none : {marks : List Bool} {ws : List ℕ} {c : ℕ} → Made [] marks ws c marks ws c
 unfolding push_all after
 made_none {marks} {ws} {c} = record { count = omega arith; stack = refl; live = refl }
 
-pub made_one : {marks ws : List ℕ} {c : ℕ} (k l : ℕ) → k < length marks → Made ((k, l) ∷ []) marks ws c (set marks k 0) (push ws c k l) (c + 1)
+pub made_one : {marks : List Bool} {ws : List ℕ} {c : ℕ} (k l : ℕ) → k < length marks → Made ((k, l) ∷ []) marks ws c (set marks k false) (push ws c k l) (c + 1)
 unfolding push_all after
 made_one {marks} {ws} {c} k l h = record { count = omega arith; stack = refl; live = live_less marks k h }
 
-pub made_more : {s t : List (Entry literal)} {marks ws : List ℕ} {c : ℕ} {marks' ws' : List ℕ} {r : ℕ} {marks'' ws'' : List ℕ} {r' : ℕ}
+pub made_more : {s t : List (Entry literal)} {marks : List Bool} {ws : List ℕ} {c : ℕ} {marks' : List Bool} {ws' : List ℕ} {r : ℕ} {marks'' : List Bool} {ws'' : List ℕ} {r' : ℕ}
     → Made s marks ws c marks' ws' r → Made t marks' ws' r marks'' ws'' r' → Made (s ++ t) marks ws c marks'' ws'' r'
 made_more {s} {t} {marks} {ws} {c} {marks'} {ws'} {r} {marks''} {ws''} {r'} a b =
     record {

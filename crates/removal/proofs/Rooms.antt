@@ -5,14 +5,12 @@ use mathlib.Core.List.{List, [], ◌∷◌}
 use Prim.Native.Nat.{ℕ, ◌+◌, ◌*◌, ◌≤◌, ◌<◌}
 use native.Mathlib.Omega.{arith}
 use lib.ListN.{length}
-use Rattle.rules.specs.Clause.{mem}
 use Rattle.rules.specs.Blocking.{literal}
 use Rattle.rules.specs.Book.{Live, Entry, one_to, less, after, fault}
 use Rattle.rules.proofs.Laws.{Within, all_within, less_in}
 use Rattle.rules.proofs.Sweeps.{tally, tally_le, tally_less}
 use Rattle.rules.proofs.Faults.{fault_head}
-use Rattle.table.specs.Limits.{base}
-use Rattle.table.specs.Table.{Table, row, book_of, sound}
+use Rattle.table.specs.Table.{Table, book_of}
 use Rattle.table.specs.Stack.{entries}
 use Rattle.table.proofs.Soundness.{sound_of}
 use Rattle.table.proofs.Stacks.{length_entries}
@@ -48,7 +46,7 @@ pub record Pushable (t : Table) (ws : List ℕ) (c k l : ℕ) : Type 0 where
   pub space : 2 * c + 1 < length ws
   pub few : c < 4000
 
-module _ {t : Table} {ws : List ℕ} {c : ℕ} {marks : List ℕ} (o : Open t ws c marks) where
+module _ {t : Table} {ws : List ℕ} {c : ℕ} {marks : List Bool} (o : Open t ws c marks) where
   pub pushable : {r : Bool} (k l : ℕ) → r ≡ entry_names t (live_of marks) (k, l) → r ≡ true → Pushable t ws c k l
   pushable k l e h =
       let names : entry_names t (live_after t ws c) (k, l) ≡ true = rw o.live at (sym e ∙ h) in
@@ -60,9 +58,3 @@ module _ {t : Table} {ws : List ℕ} {c : ℕ} {marks : List ℕ} (o : Open t ws
         space = omega (arith, o.passed.room);
         few = omega (arith, (sound_of t o.passed.table_sound).clauses);
       }
-
-  -- what the test of its literal needs
-  pub askable : {k l : ℕ} → Pushable t ws c k l
-      → (sound base t ≡ true)
-      × (((t.clauses < length marks) × ((j : ℕ) → live_of marks j ≡ true → (1 ≤ j) × (j ≤ t.clauses))) × ((1 ≤ k) × (k ≤ t.clauses) × (mem l (row t k) ≡ true)))
-  askable q = (o.passed.table_sound, ((o.marks_many, open_within o), (q.named.low, q.named.high, q.named.holds)))

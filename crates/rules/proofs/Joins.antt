@@ -1,16 +1,16 @@
 -- The literal test from the two clauses as they stand, with no copy of either. Assumes nothing.
-use mathlib.Core.Path.{◌≡◌}
-use mathlib.Core.Bool.{true, false, not, ◌||◌}
+use mathlib.Core.Path.{◌≡◌, refl}
+use mathlib.Core.Bool.{Bool, true, false, not, ◌&&◌, ◌||◌}
 use mathlib.Core.List.{◌++◌}
 use mathlib.Core.Logic.{◌↔◌, inl, inr, ◌≢◌}
 use Prim.Native.Nat.{ℕ}
-use borrow.Author.Tests.{eqb-false, eq-eqb, ne_eqb, not-true}
+use borrow.Author.Tests.{eqb-false, ne_eqb, not-true}
 use Rattle.rules.specs.Walk.{any}
 use Rattle.rules.specs.Clause.{Clause, neg, mem, without, tautology}
 use Rattle.rules.specs.Blocking.{resists}
 use Rattle.rules.specs.Inner.{opposed, opposed_but}
 use Rattle.rules.specs.Proposition.{◌∈◌, InUnion}
-use Rattle.rules.proofs.Logic.{by_or, differ, and_true, and_no, or_true, or_yes, or_no, not_false, same}
+use Rattle.rules.proofs.Logic.{by_or, differ, and_true, or_true, or_yes, or_no, not_false, same}
 use Rattle.rules.proofs.Members.{any_mem, mem_any, mem_in, in_mem}
 use Rattle.rules.proofs.Literals.{neg_neg}
 use Rattle.rules.proofs.Definition.{tautology_is, clash_is}
@@ -26,22 +26,6 @@ opposed_is D z x = (
 but_is : (D : Clause) (z x : ℕ) → (opposed_but D z x ≡ true) ↔ ((x ≢ z) × (opposed D z x ≡ true))
 unfolding opposed_but
 but_is D z x = (λ h. let q = simp and_true at h in (eqb-false x z (not-true _ q.0), q.1), λ h. rw (ne_eqb x z h.0, h.1))
-
-pub opposed_self : (D : Clause) (z x y : ℕ) → y ≡ neg x → y ≡ z → opposed D z x ≡ false
-unfolding opposed
-opposed_self D z x y e q = rw (← e, eq-eqb y z q)
-
-pub opposed_other : (D : Clause) (z x y : ℕ) → y ≡ neg x → y ≢ z → opposed D z x ≡ mem y D
-unfolding opposed
-opposed_other D z x y e n = rw (← e, ne_eqb y z n)
-
-pub but_self : (D : Clause) (z x : ℕ) → x ≡ z → opposed_but D z x ≡ false
-unfolding opposed_but
-but_self D z x q = rw (eq-eqb x z q)
-
-pub but_other : (D : Clause) (z x : ℕ) → x ≢ z → opposed_but D z x ≡ opposed D z x
-unfolding opposed_but
-but_other D z x n = rw (ne_eqb x z n)
 
 -- C together with D without z: a variable and its negation stand across the two, or both within D, or both within C
 pub tautology_join : (C : Clause) (z : ℕ) (D : Clause)
@@ -88,24 +72,19 @@ plain_within D z p =
     let r = (opposed_is D z q.0).0 ((but_is D z q.0).0 q.2).1 in
     differ ((tautology_is D).1 (q.0, mem_in q.0 D q.1, r.0)) p)
 
--- the literal test by parts, where z is the negation of l
-module _ (C : Clause) (l : ℕ) (D : Clause) (z : ℕ) (e : z ≡ neg l) where
-  pub resists_absent : mem z D ≡ false → resists C l D ≡ false
-  unfolding resists
-  resists_absent f = rw (← e, f)
+apart : (m a b c : Bool) → (m && not ((a || b) || c)) ≡ (m && not a && not b && not c)
+apart false a b c = refl
+apart true true b c = refl
+apart true false true c = refl
+apart true false false c = refl
 
-  pub resists_across : any (opposed D z) C ≡ true → resists C l D ≡ false
-  unfolding resists
-  resists_across t = rw (← e, tautology_join C z D, t) (and_no (mem z D))
+-- the literal test by parts
+pub resists_parts : (C : Clause) (l : ℕ) (D : Clause)
+    → resists C l D ≡ (mem (neg l) D && not (any (opposed D (neg l)) C) && not (any (opposed_but D (neg l)) D) && not (tautology C))
+unfolding resists
+resists_parts C l D = rw (tautology_join C (neg l) D) (apart _ _ _ _)
 
-  pub resists_within : any (opposed_but D z) D ≡ true → resists C l D ≡ false
-  unfolding resists
-  resists_within t = rw (← e, tautology_join C z D, t, or_yes (any (opposed D z) C)) (and_no (mem z D))
-
-  pub resists_rest : mem z D ≡ true → any (opposed D z) C ≡ false → any (opposed_but D z) D ≡ false → resists C l D ≡ not (tautology C)
-  unfolding resists
-  resists_rest m a b = rw (← e, tautology_join C z D, m, a, b)
-
-  pub resists_plain : tautology C ≡ false → tautology D ≡ false → mem z D ≡ true → resists C l D ≡ not (any (opposed D z) C)
-  unfolding resists
-  resists_plain c d m = rw (← e, tautology_join C z D, m, plain_within D z d, c) (simp or_no)
+pub resists_plain : (C : Clause) (l : ℕ) (D : Clause) → tautology C ≡ false → tautology D ≡ false
+    → resists C l D ≡ (mem (neg l) D && not (any (opposed D (neg l)) C))
+unfolding resists
+resists_plain C l D c d = rw (tautology_join C (neg l) D, plain_within D (neg l) d, c) (simp or_no)

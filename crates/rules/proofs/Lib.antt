@@ -7,4 +7,3 @@ pub mod Faults
 pub mod Literals
 pub mod Definition
 pub mod Joins
-pub mod Parts

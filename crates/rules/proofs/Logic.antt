@@ -27,10 +27,6 @@ pub by_or {ℓ} : {A B : Type 0} {P : Type ℓ} → A ⊎ B → (A → P) → (B
 by_or (inl a) f g = f a
 by_or (inr b) f g = g b
 
-pub or_assoc : (a b c : Bool) → ((a || b) || c) ≡ (a || (b || c))
-or_assoc true b c = refl
-or_assoc false b c = refl
-
 pub or_yes : (b : Bool) → (b || true) ≡ true
 or_yes true = refl
 or_yes false = refl

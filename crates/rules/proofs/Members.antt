@@ -3,7 +3,7 @@ use mathlib.Core.Path.{◌≡◌, refl, sym, ◌∙◌, ap}
 use mathlib.Core.Bool.{Bool, true, false, ◌||◌}
 use mathlib.Core.List.{[], ◌∷◌, ◌++◌}
 use mathlib.Core.Logic.{◌≢◌, ◌⊎◌, inl, inr, ⊎_elim}
-use Prim.Native.Nat.{ℕ, zero, suc, ◌<◌}
+use Prim.Native.Nat.{ℕ, zero, suc, ◌≤◌, ◌<◌}
 use native.Mathlib.Omega.{arith}
 use lib.Dec.{eqb}
 use lib.ListN.{length, get_or, take}
@@ -13,25 +13,25 @@ use Rattle.rules.specs.Walk.{any}
 use Rattle.rules.specs.Clause.{Clause, mem, without}
 use Rattle.rules.specs.Proposition.{◌∈◌, here, there}
 use Rattle.rules.proofs.Logic.{by_bool, by_eq, differ, not_false, or_no}
-use Rattle.rules.proofs.Walks.{any_append}
+use Rattle.std.proofs.lemmas.List.Folds.{list_any-append}
 
 pub any_mem : (p : ℕ → Bool) (C : Clause) (x : ℕ) → mem x C ≡ true → p x ≡ true → any p C ≡ true
-unfolding any mem
+unfolding mem
 any_mem p [] x h t = h
 any_mem p (y ∷ C) x h t =
     by_eq x y (λ e. let q : p y ≡ true = rw e at t in cc)
     (λ n. let f = ne_eqb x y n in let i : any p C ≡ true = any_mem p C x (cc) t in by_bool (p y) (λ a. cc) (λ a. cc))
 
 pub mem_nil : (x : ℕ) → mem x [] ≡ false
-unfolding any mem
+unfolding mem
 mem_nil x = refl
 
 pub mem_skip : (x y : ℕ) (C : Clause) → mem x C ≡ true → mem x (y ∷ C) ≡ true
-unfolding any mem
+unfolding mem
 mem_skip x y C h = by_bool (eqb x y) (λ t. cc) (λ f. cc)
 
 pub mem_any : (p : ℕ → Bool) (C : Clause) → any p C ≡ true → (x : ℕ) × (mem x C ≡ true) × (p x ≡ true)
-unfolding any mem
+unfolding mem
 mem_any p [] h = (0, h, differ h refl)
 mem_any p (y ∷ C) h =
     by_bool (p y) (λ t. (y, rw (eq-eqb y y refl), t))
@@ -41,15 +41,15 @@ pub any_false : (p : ℕ → Bool) (C : Clause) (x : ℕ) → any p C ≡ false 
 any_false p C x h m = not_false (p x) (λ t. differ (any_mem p C x m t) h)
 
 pub mem_cons : (x y : ℕ) (C : Clause) → mem x (y ∷ C) ≡ true → (x ≡ y) ⊎ (mem x C ≡ true)
-unfolding any mem
+unfolding mem
 mem_cons x y C h = by_bool (eqb x y) (λ t. inl (eqb-true x y t)) (λ f. inr (cc))
 
 pub mem_here : (x : ℕ) (C : Clause) → mem x (x ∷ C) ≡ true
-unfolding any mem
+unfolding mem
 mem_here x C = rw (eq-eqb x x refl)
 
 pub mem_other : (x y : ℕ) (C : Clause) → x ≢ y → mem x (y ∷ C) ≡ mem x C
-unfolding any mem
+unfolding mem
 mem_other x y C n = rw (ne_eqb x y n)
 
 -- what is not in a longer list is not its first, and not in the rest
@@ -67,13 +67,13 @@ append_r x [] D h = h
 append_r x (y ∷ C) D h = mem_skip x y (C ++ D) (append_r x C D h)
 
 pub mem_append : (x : ℕ) (C D : Clause) → mem x (C ++ D) ≡ true → (mem x C ≡ true) ⊎ (mem x D ≡ true)
-unfolding any mem
+unfolding mem
 mem_append x [] D h = inr h
 mem_append x (y ∷ C) D h =
     by_bool (eqb x y) (λ t. inl (cc)) (λ f. ⊎_elim (λ a. inl (cc)) (λ a. inr a) (mem_append x C D (cc)))
 
 pub mem_without : (x y : ℕ) (C : Clause) → mem x (without y C) ≡ true → (mem x C ≡ true) × (x ≢ y)
-unfolding any mem without
+unfolding mem without
 mem_without x y [] h = (h, λ e. differ h refl)
 mem_without x y (z ∷ C) h =
     by_bool (eqb y z)
@@ -91,7 +91,7 @@ without_mem x y (z ∷ C) h n =
     (λ f. rw f (⊎_elim (λ e. rw e (mem_here z (without y C))) (λ m. mem_skip x z (without y C) (without_mem x y C m n)) (mem_cons x z C h)))
 
 pub mem_in : (x : ℕ) (C : Clause) → mem x C ≡ true → x ∈ C
-unfolding any mem
+unfolding mem
 mem_in x [] h = differ h refl
 mem_in x (y ∷ C) h = by_eq x y (λ e. rw e (◌∈◌.here)) (λ n. let f = ne_eqb x y n in ◌∈◌.there (mem_in x C (cc)))
 
@@ -111,6 +111,12 @@ own_at C D e i h = sym (ap (mem (get_or D i 0)) e) ∙ mem_at D i h
 
 -- one literal more of a clause
 pub mem_next : (x : ℕ) (C : Clause) (i : ℕ) → i < length C → mem x (take (suc i) C) ≡ (mem x (take i C) || eqb x (get_or C i 0))
-unfolding mem any
+unfolding mem
 mem_next x C i h =
-    rw (take-suc C i 0) (any_append (eqb x) (take i C) (get_or C i 0 ∷ []) ∙ ap (λ (b : Bool). any (eqb x) (take i C) || b) (or_no _))
+    rw (take-suc C i 0) (list_any-append (eqb x) (take i C) (get_or C i 0 ∷ []) ∙ ap (λ (b : Bool). any (eqb x) (take i C) || b) (or_no _))
+
+-- no literal of a clause is as large as l
+pub absent : (n l : ℕ) (C : Clause) → ((i : ℕ) → get_or C i 0 < n) → n ≤ l → mem l C ≡ false
+unfolding mem
+absent n l [] h b = refl
+absent n l (x ∷ C) h b = rw (ne_eqb l x (λ e. omega (arith, h 0)), absent n l C (λ i. h (suc i)) b)

@@ -1,32 +1,24 @@
 -- What a loop knows of the walks: of a list's elements from i on or before i, of the numbers from 1 to i, of a list made by index. Assumes nothing.
-use mathlib.Core.Path.{◌≡◌, refl, sym, ◌∙◌}
-use mathlib.Core.Bool.{Bool, true, false, ◌||◌, cond}
-use mathlib.Core.List.{List, [], ◌∷◌, ◌++◌}
+use mathlib.Core.Path.{◌≡◌, refl, ◌∙◌}
+use mathlib.Core.Bool.{Bool, true, false, cond}
+use mathlib.Core.List.{List, [], ◌∷◌}
 use Prim.Native.Nat.{ℕ, zero, suc, ◌+◌, ◌≤◌, ◌<◌}
 use native.Mathlib.Omega.{arith}
 use native.Mathlib.Numerals.{add-one}
 use lib.ListN.{length, get_or, drop, length-append, get_or-append, drop_of_length-le}
 use lib.Seq.{drop-cons, get_or_at}
 use Rattle.rules.specs.Walk.{any, every_to, or_else, least, upto}
-use Rattle.rules.proofs.Logic.{by_eq, and_true, and_no, or_assoc}
+use Rattle.rules.proofs.Logic.{by_eq, and_true, and_no}
 
 -- the elements of a list: what is asked of those from i on
 pub any_here : (p : ℕ → Bool) (C : List ℕ) (i : ℕ) → i < length C → p (get_or C i 0) ≡ true → any p (drop i C) ≡ true
-unfolding any
 any_here p C i h t = rw (drop-cons C i 0, t)
 
 pub any_next : (p : ℕ → Bool) (C : List ℕ) (i : ℕ) → i < length C → p (get_or C i 0) ≡ false → any p (drop (i + 1) C) ≡ any p (drop i C)
-unfolding any
 any_next p C i h f = rw (add-one, drop-cons C i 0, f)
 
 pub any_end : (p : ℕ → Bool) (C : List ℕ) (i : ℕ) → length C ≤ i → any p (drop i C) ≡ false
-unfolding any
 any_end p C i h = rw (drop_of_length-le C h)
-
-pub any_append : (p : ℕ → Bool) (C D : List ℕ) → any p (C ++ D) ≡ (any p C || any p D)
-unfolding any
-any_append p [] D = refl
-any_append p (x ∷ C) D = rw (any_append p C D) (sym (or_assoc (p x) (any p C) (any p D)))
 
 -- the numbers from 1 to n, all of which pass
 pub every_to_next : (p : ℕ → Bool) (i : ℕ) → every_to p i ≡ true → p (i + 1) ≡ true → every_to p (i + 1) ≡ true

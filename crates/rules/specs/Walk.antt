@@ -1,16 +1,15 @@
 -- The walks that every definition is made of: a test of the elements of a list, of the numbers from 1 to n, and the list of the first n values of a
 -- function. Assumes nothing.
-use Rattle.std.specs.Prelude.{Bool, true, false, ◌&&◌, ◌||◌, cond, List, [], ◌∷◌, ◌++◌, ℕ, zero, suc, eqb}
+use Rattle.std.specs.Prelude.{Bool, true, false, ◌&&◌, cond, List, [], ◌∷◌, ◌++◌, ℕ, zero, suc, eqb, Option, None, Some}
+use Rattle.std.specs.List.{list_any, list_all}
 
 -- some element of the list passes
-unfoldable pub any : (ℕ → Bool) → List ℕ → Bool
-any p [] = false
-any p (x ∷ xs) = p x || any p xs
+abbrev pub any : (ℕ → Bool) → List ℕ → Bool
+any p xs = list_any p xs
 
 -- every element of the list passes
-unfoldable pub every : (ℕ → Bool) → List ℕ → Bool
-every p [] = true
-every p (x ∷ xs) = p x && every p xs
+abbrev pub every : (ℕ → Bool) → List ℕ → Bool
+every p xs = list_all p xs
 
 -- the two lists are equal, element by element
 abbrev pub same : List ℕ → List ℕ → Bool
@@ -33,6 +32,11 @@ or_else (suc a) b = suc a
 unfoldable pub least : (ℕ → Bool) → ℕ → ℕ
 least p zero = 0
 least p (suc n) = or_else (least p n) (cond (p (suc n)) (suc n) 0)
+
+-- the number found, or none where it is 0
+abbrev pub found : ℕ → Option ℕ
+found zero = None
+found (suc k) = Some (suc k)
 
 -- f 0, f 1 and so on, n of them
 module _ {A : Type 0} where

@@ -22,7 +22,8 @@ use Rattle.table.proofs.Soundness.{every_mem, coded_bounds}
 use Rattle.saved.specs.Bytes.{numbers_of}
 use Rattle.saved.specs.Field.{Layout, narrow, end_tag, field, tag_of, length_of, value_of, whole_field}
 use Rattle.saved.specs.Form.{Head, Line, Form, number_of, blocking_of, heads_at, tag_at, head_bytes, lines_bytes, form_bytes}
-use Rattle.table.specs.Res.{Res, fault, ok, on_ok, or_fault}
+use Rattle.std.specs.Prelude.{Ok, Err}
+use Rattle.table.specs.Res.{Res, on_ok, or_fault}
 use Rattle.saved.specs.Reading.{field_tests, head_of, head_at, head_limits, head_tests, line_length, line_limits, new_number, line_sound, line_at, line_tests, end_tests, read_lines, read_form}
 use Rattle.saved.proofs.Digits.{Bytes, Fit, bytes_drop, numbers_bytes}
 use Rattle.saved.proofs.Lengths.{length_field}
@@ -34,13 +35,13 @@ use Rattle.saved.proofs.Fields.{written_tag, written_length, written_value, writ
 pub passed : (b : Bool) (r : Refusal) (o : Option Refusal) → (test b r then o) ≡ none → (b ≡ true) × (o ≡ none)
 passed b r o e = let q = then_none (test b r) o e in (test_none b r q.0, q.1)
 
-or_ok : {A : Type 0} (o : Option Refusal) (r : Res A) (a : A) → or_fault o r ≡ ok a → (o ≡ none) × (r ≡ ok a)
+or_ok : {A : Type 0} (o : Option Refusal) (r : Res A) (a : A) → or_fault o r ≡ Ok a → (o ≡ none) × (r ≡ Ok a)
 or_ok none r a e = (refl, e)
 or_ok (some x) r a e = absurd (let z : ◌≡◌ {A = ℕ} 0 1 = cc in omega arith)
 
-on_ok_lem : {A B : Type 0} (f : A → B) (r : Res A) (b : B) → on_ok f r ≡ ok b → (a : A) × (r ≡ ok a) × (f a ≡ b)
-on_ok_lem f (fault x) b e = absurd (let z : ◌≡◌ {A = ℕ} 0 1 = cc in omega arith)
-on_ok_lem f (ok a) b e = (a, refl, cc)
+on_ok_lem : {A B : Type 0} (f : A → B) (r : Res A) (b : B) → on_ok f r ≡ Ok b → (a : A) × (r ≡ Ok a) × (f a ≡ b)
+on_ok_lem f (Err x) b e = absurd (let z : ◌≡◌ {A = ℕ} 0 1 = cc in omega arith)
+on_ok_lem f (Ok a) b e = (a, refl, cc)
 
 -- the three tests of every field
 pub field_passed : (tag : ℕ) (b : List ℕ) (at : ℕ) (right : Bool) → field_tests tag b at right ≡ none → (whole_field b ≡ true) × (tag_of b ≡ tag) × (right ≡ true)
@@ -109,7 +110,6 @@ pub record GoodForm (lim : Limits) (lay : Layout) (f : Form) : Type 0 where
   pub total : literals_in f.head.removals f.lines ≡ f.head.literals
 
 codes_fit : (w n : ℕ) (C : List ℕ) → 2 * n + 1 < 256 ^ w → every (coded n) C ≡ true → Fit w C
-unfolding every
 codes_fit w n [] l e = tt
 codes_fit w n (x ∷ C) l e =
     let q = simp and_true at e in let b = (coded_bounds n x q.0).1 in (omega arith, codes_fit w n C l q.1)
@@ -216,8 +216,8 @@ module _ (lim : Limits) (lay : Layout) (suits : Suits lim lay) where
 
     lines_more : (x : Line) (xs : List Line) (met : List ℕ) (total at : ℕ) → GoodLine lim h (heads_at (length xs) r) x
         → new_number lim lay (heads_at (length xs) r) met (number_of x) ≡ true → total + (length x - heads_at (length xs) r) ≤ lim.literals
-        → ((at : ℕ) → read_lines lim lay h (length xs) (number_of x ∷ met) (total + (length x - heads_at (length xs) r)) at (lines_bytes lay r xs) ≡ ok xs)
-        → read_lines lim lay h (suc (length xs)) met total at (lines_bytes lay r (x ∷ xs)) ≡ ok (x ∷ xs)
+        → ((at : ℕ) → read_lines lim lay h (length xs) (number_of x ∷ met) (total + (length x - heads_at (length xs) r)) at (lines_bytes lay r xs) ≡ Ok xs)
+        → read_lines lim lay h (suc (length xs)) met total at (lines_bytes lay r (x ∷ xs)) ≡ Ok (x ∷ xs)
     unfolding read_lines lines_bytes line_at
     lines_more x xs met total at e n l i =
         let w = lay.width in
@@ -235,7 +235,7 @@ module _ (lim : Limits) (lay : Layout) (suits : Suits lim lay) where
         )
 
     pub lines_read : (xs : List Line) (met : List ℕ) (total at : ℕ) → Each lim h r xs → Newly lim lay r met xs → total + literals_in r xs ≡ h.literals
-        → read_lines lim lay h (length xs) met total at (lines_bytes lay r xs) ≡ ok xs
+        → read_lines lim lay h (length xs) met total at (lines_bytes lay r xs) ≡ Ok xs
     unfolding read_lines lines_bytes literals_in
     lines_read [] met total at e n l =
         let w = lay.width in
@@ -301,10 +301,10 @@ module _ (lim : Limits) (lay : Layout) (suits : Suits lim lay) where
           bytes = λ hb. rw (q.count, ← (q.bytes (k hb))) (f hb);
         }
 
-    pub lines_were : (c : ℕ) (met : List ℕ) (total at : ℕ) (b : List ℕ) (xs : List Line) → read_lines lim lay h c met total at b ≡ ok xs → Read c met total b xs
+    pub lines_were : (c : ℕ) (met : List ℕ) (total at : ℕ) (b : List ℕ) (xs : List Line) → read_lines lim lay h c met total at b ≡ Ok xs → Read c met total b xs
     unfolding read_lines
     lines_were zero met total at b xs e =
-        let o = or_ok (end_tests lim lay h total b at) (ok []) xs e in
+        let o = or_ok (end_tests lim lay h total b at) (Ok []) xs e in
         let q : [] ≡ xs = cc in
         rw (← q) (end_read met total at b o.0)
     lines_were (suc c) met total at b xs e =
@@ -353,7 +353,7 @@ module _ (lim : Limits) (lay : Layout) (suits : Suits lim lay) where
       )
 
   -- what was written is read
-  pub form_read : (f : Form) → GoodForm lim lay f → read_form lim lay (form_bytes lay f) ≡ ok f
+  pub form_read : (f : Form) → GoodForm lim lay f → read_form lim lay (form_bytes lay f) ≡ Ok f
   unfolding read_form form_bytes
   form_read f g =
       let w = lay.width in
@@ -361,7 +361,7 @@ module _ (lim : Limits) (lay : Layout) (suits : Suits lim lay) where
       let rest = lines_bytes lay h.removals f.lines in
       let b = head_bytes lay h ++ rest in
       let k : drop (3 + length_of b) b ≡ rest = unfold head_bytes in written_rest w lay.header (head_numbers h) rest suits.header in
-      let i : (at : ℕ) → read_lines lim lay h h.clauses [] 0 at rest ≡ ok f.lines =
+      let i : (at : ℕ) → read_lines lim lay h h.clauses [] 0 at rest ≡ Ok f.lines =
       λ at. rw g.count at (lines_read lim lay suits h g.head f.lines [] 0 at g.each g.new (omega (arith, g.total))) in
       rw (head_ok h rest g.head, head_back h rest g.head, k, i (3 + length_of b))
 
@@ -403,7 +403,7 @@ module _ (lim : Limits) (lay : Layout) (suits : Suits lim lay) where
   form h xs = record { head = h; lines = xs }
 
   -- what was read is good, and is what was written
-  pub form_was : (b : List ℕ) (f : Form) → read_form lim lay b ≡ ok f → GoodForm lim lay f × (Bytes b → b ≡ form_bytes lay f)
+  pub form_was : (b : List ℕ) (f : Form) → read_form lim lay b ≡ Ok f → GoodForm lim lay f × (Bytes b → b ≡ form_bytes lay f)
   unfolding read_form form_bytes
   form_was b f e =
       let h : Head = head_at lim lay b in

@@ -7,7 +7,6 @@ use Prim.Native.Nat.{ℕ, suc, ◌≤◌}
 use lib.Dec.{eqb}
 use lib.ListN.{length}
 use borrow.Author.Tests.{le-leb}
-use Rattle.rules.specs.Walk.{any}
 use Rattle.rules.specs.Clause.{mem}
 use Rattle.rules.specs.Blocking.{literal}
 use Rattle.rules.specs.Book.{Live, Entry, one_to, all, less, after, fault}
@@ -85,7 +84,7 @@ and_nots false b c = refl
 
 -- what is live after a stack is what was live and is not named
 pub after_named : (L : Live) (s : List (Entry literal)) (k : ℕ) → after literal L s k ≡ (L k && not (mem k (named s)))
-unfolding named after any mem less
+unfolding named after mem less
 after_named L [] k = by_bool (L k) (λ t. rw t) (λ f. rw f)
 after_named L (e ∷ s) k = after_named (less L e.0) s k ∙ and_nots (L k) (eqb k e.0) (mem k (named s))
 

@@ -5,7 +5,6 @@ use mathlib.Core.List.{List, [], ◌∷◌, ◌++◌}
 use Prim.Native.Nat.{ℕ, zero, suc, ◌+◌, ◌≤◌, ◌<◌}
 use native.Mathlib.Omega.{arith}
 use lib.ListN.{length}
-use Rattle.rules.specs.Walk.{any}
 use Rattle.rules.specs.Clause.{mem}
 use Rattle.rules.proofs.Logic.{by_bool, by_eq, differ, not_false}
 use Rattle.rules.proofs.Members.{mem_nil, mem_here, mem_other, append_r}
@@ -68,7 +67,7 @@ module _ (w : ℕ → ℕ) where
       rw (mem_other (suc m) g gs e) (omega arith))
 
   pub left_none : (m : ℕ) → left w m [] ≡ sum_to w m
-  unfolding left sum_to any mem
+  unfolding left sum_to mem
   left_none zero = refl
   left_none (suc m) = rw (left_none m)
 

@@ -14,7 +14,7 @@ use Rattle.table.specs.Limits.{Limits, base}
 use Rattle.table.specs.Table.{Table, offset, book_of}
 use Rattle.saved.specs.Field.{Layout, narrow}
 use Rattle.saved.specs.Form.{Head, Line, Form, number_of, form_bytes, live_lines, removed_lines, form_of, encode}
-use Rattle.table.specs.Res.{ok}
+use Rattle.std.specs.Prelude.{Ok}
 use Rattle.saved.specs.Reading.{read_form, table_of, stack_of}
 use Rattle.saved.proofs.Digits.{Bytes}
 use Rattle.saved.proofs.Places.{New, new_within, new_apart, all_there}
@@ -98,11 +98,11 @@ good_again lim lay f g =
     rw (joined_again f) at (form_again lim f.head (lives f) (gones f) (good_parted lim lay f g))
 
 -- what was read is what is written, in every layout that suits
-pub read_written_in : (lay : Layout) → Suits base lay → (b : List ℕ) (f : Form) → Bytes b → read_form base lay b ≡ ok f → encode lay (table_of f) (stack_of f) ≡ b
+pub read_written_in : (lay : Layout) → Suits base lay → (b : List ℕ) (f : Form) → Bytes b → read_form base lay b ≡ Ok f → encode lay (table_of f) (stack_of f) ≡ b
 unfolding encode
 read_written_in lay suits b f h e =
     let w = form_was base lay suits b f e in
     ap (form_bytes lay) (good_again base lay f w.0) ∙ sym (w.1 h)
 
-pub read_written : (b : List ℕ) (f : Form) → ((i : ℕ) → get_or b i 0 < 256) → read_form base narrow b ≡ ok f → encode narrow (table_of f) (stack_of f) ≡ b
+pub read_written : (b : List ℕ) (f : Form) → ((i : ℕ) → get_or b i 0 < 256) → read_form base narrow b ≡ Ok f → encode narrow (table_of f) (stack_of f) ≡ b
 read_written b f h e = read_written_in narrow base_narrow b f h e

@@ -18,7 +18,7 @@ use Rattle.table.proofs.Soundness.{sound_of}
 use Rattle.stack.specs.Tests.{entry_names}
 use Rattle.saved.specs.Field.{Layout, narrow}
 use Rattle.saved.specs.Form.{Head, Line, live_lines, removed_lines, form_of, encode}
-use Rattle.table.specs.Res.{ok}
+use Rattle.std.specs.Prelude.{Ok}
 use Rattle.saved.specs.Reading.{read_form, literals_of, table_of, stack_of}
 use Rattle.saved.proofs.Named.{named, names_new, held, after_named, live_named}
 use Rattle.saved.proofs.Lengths.{numbers_append, removed_count, lives_count, lines_numbers}
@@ -105,9 +105,9 @@ module _ (t : Table) (s : List (Entry literal)) (q : sound base t ≡ true) (h :
   stack_back = entries_join (length s) ls gs (removed_count t s) ∙ removed_entries t s
 
   -- what is written is read, in every layout that suits
-  pub written_read_in : (lay : Layout) → Suits base lay → read_form base lay (encode lay t s) ≡ ok (form_of t s)
+  pub written_read_in : (lay : Layout) → Suits base lay → read_form base lay (encode lay t s) ≡ Ok (form_of t s)
   unfolding encode
   written_read_in lay suits = form_read base lay suits (form_of t s) (made_good lay)
 
-  pub written_read : read_form base narrow (encode narrow t s) ≡ ok (form_of t s)
+  pub written_read : read_form base narrow (encode narrow t s) ≡ Ok (form_of t s)
   written_read = written_read_in narrow base_narrow

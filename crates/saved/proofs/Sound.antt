@@ -6,7 +6,6 @@ use Prim.Native.Nat.{ℕ, ◌+◌, ◌-◌, ◌≤◌}
 use native.Mathlib.Omega.{arith}
 use lib.ListN.{length, drop, length-append, length-drop, take-append-drop}
 use borrow.Author.Tests.{eq-eqb, ne_eqb, lt-ltb, le-ltb, le-leb}
-use Rattle.rules.specs.Walk.{every}
 use Rattle.rules.specs.Clause.{Clause, mem}
 use Rattle.rules.specs.Blocking.{literal}
 use Rattle.rules.specs.Book.{all, fault}
@@ -17,7 +16,7 @@ use Rattle.table.specs.Table.{Table, row, book_of, distinct, sound_clause, sound
 use Rattle.stack.specs.Tests.{entry_names}
 use Rattle.saved.specs.Field.{Layout, narrow}
 use Rattle.saved.specs.Form.{Head, Line, Form, number_of, blocking_of, heads_at}
-use Rattle.table.specs.Res.{ok}
+use Rattle.std.specs.Prelude.{Ok}
 use Rattle.saved.specs.Reading.{read_form, literals_of, table_of, stack_of}
 use Rattle.saved.proofs.Places.{New, sum_of, sum_to, sum_all}
 use Rattle.saved.proofs.Named.{Held, new_names}
@@ -73,7 +72,7 @@ sum_append w (x ∷ xs) ys = omega (arith, sum_append w xs ys)
 
 -- whatever clause is asked for, its literals are sound
 row_sound : (lim : Limits) (h : Head) (r : ℕ) (xs : List Line) (k : ℕ) → Each lim h r xs → sound_clause lim h.variables (literals_of r xs k) ≡ true
-unfolding literals_of sound_clause every distinct
+unfolding literals_of sound_clause distinct
 row_sound lim h r [] k e = rw (le-leb 0 lim.clause_literals (omega arith))
 row_sound lim h r (x ∷ xs) k e =
     by_eq (number_of x) k
@@ -168,8 +167,8 @@ module _ (lim : Limits) (lay : Layout) (f : Form) (g : GoodForm lim lay f) where
   pub good_names : fault literal (entry_names (table_of f)) (all (book_of (table_of f))) (stack_of f) ≡ 0
   good_names = rw (joined_again f) at (given_names lim f.head (lives f) (gones f) (good_parted lim lay f g))
 
-pub read_sound : (b : List ℕ) (f : Form) → read_form base narrow b ≡ ok f → sound base (table_of f) ≡ true
+pub read_sound : (b : List ℕ) (f : Form) → read_form base narrow b ≡ Ok f → sound base (table_of f) ≡ true
 read_sound b f e = good_sound base narrow f (form_was base narrow base_narrow b f e).0
 
-pub read_names : (b : List ℕ) (f : Form) → read_form base narrow b ≡ ok f → fault literal (entry_names (table_of f)) (all (book_of (table_of f))) (stack_of f) ≡ 0
+pub read_names : (b : List ℕ) (f : Form) → read_form base narrow b ≡ Ok f → fault literal (entry_names (table_of f)) (all (book_of (table_of f))) (stack_of f) ≡ 0
 read_names b f e = good_names base narrow f (form_was base narrow base_narrow b f e).0

@@ -1,5 +1,5 @@
 -- Reading a saved form: every fault with its place, and the table and stack that an accepted form gives (document 01, 'The saved form'). Assumes nothing.
-use Rattle.std.specs.Prelude.{ℕ, zero, suc, ◌+◌, ◌-◌, ◌*◌, ◌%◌, Bool, not, ◌&&◌, ◌||◌, cond, List, [], ◌∷◌, ◌++◌, eqb, leb, ltb, length, get_or, drop}
+use Rattle.std.specs.Prelude.{ℕ, zero, suc, ◌+◌, ◌-◌, ◌*◌, ◌%◌, Bool, not, ◌&&◌, ◌||◌, cond, List, [], ◌∷◌, ◌++◌, eqb, leb, ltb, length, get_or, drop, Ok}
 use Rattle.std.proofs.Math.Option.{Option}
 use Rattle.rules.specs.Walk.{every, upto}
 use Rattle.rules.specs.Clause.{Clause, mem}
@@ -8,7 +8,7 @@ use Rattle.rules.specs.Book.{Entry}
 use Rattle.table.specs.Limits.{Limits}
 use Rattle.table.specs.Table.{Table, table, distinct, coded}
 use Rattle.table.specs.Answer.{test, ◌then◌}
-use Rattle.table.specs.Res.{Res, ok, on_ok, or_fault}
+use Rattle.table.specs.Res.{Res, on_ok, or_fault}
 use Rattle.table.specs.declared.Refusal.{Refusal}
 use Rattle.table.specs.declared.Refusal.TheVariants.{OverLimit, BadSaved}
 use Rattle.saved.specs.Bytes.{numbers_of}
@@ -85,7 +85,7 @@ module _ (lim : Limits) (lay : Layout) where
   -- the whole form ---------------------------------------------------------------
   -- c lines are still to come, after the numbers met and `total` literals; the bytes b have the offset `at`
   unfoldable pub read_lines : Head → ℕ → List ℕ → ℕ → ℕ → List ℕ → Res (List Line)
-  read_lines h zero met total at b = or_fault (end_tests h total b at) (ok [])
+  read_lines h zero met total at b = or_fault (end_tests h total b at) (Ok [])
   read_lines h (suc c) met total at b =
       let x : Line = line_at b in
       or_fault (line_tests h c total met b at)

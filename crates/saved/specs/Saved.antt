@@ -1,5 +1,5 @@
 -- The two calls: the writer and the reader of the saved form, refusals and every lent cell included (document 01, 'Refusal numbers'). Assumes nothing.
-use Rattle.std.specs.Prelude.{ℕ, ◌+◌, ◌*◌, true, List, [], ◌∷◌, leb, length}
+use Rattle.std.specs.Prelude.{ℕ, ◌+◌, ◌*◌, true, List, [], ◌∷◌, leb, length, Ok, Err}
 use Rattle.std.proofs.Math.Option.{Option, none, some}
 use Rattle.rules.specs.Blocking.{literal}
 use Rattle.rules.specs.Book.{all, fault as first_bad}
@@ -12,7 +12,7 @@ use Rattle.table.specs.declared.Refusal.TheVariants.{NoRoom, NotBlocking}
 use Rattle.stack.specs.Tests.{lent_tests, entry_blocks, blocking_tests}
 use Rattle.saved.specs.Field.{Layout}
 use Rattle.saved.specs.Form.{Form, encode}
-use Rattle.table.specs.Res.{Res, fault, ok}
+use Rattle.table.specs.Res.{Res}
 use Rattle.saved.specs.Reading.{read_form, table_of, stack_of}
 
 -- write_saved: 4, 3 for the stack, 5, 6, then 3 for an output that is shorter than the form
@@ -58,8 +58,8 @@ or_kept none lits offs stack o = o
 or_kept (some r) lits offs stack o = loaded (paper r) lits offs stack
 
 abbrev pub accepted : Res Form → List ℕ → List ℕ → List ℕ → Loaded
-accepted (fault r) lits offs stack = loaded (paper r) lits offs stack
-accepted (ok f) lits offs stack = or_kept (test_at (unblocked f) NotBlocking) lits offs stack (unpacked f lits offs stack)
+accepted (Err r) lits offs stack = loaded (paper r) lits offs stack
+accepted (Ok f) lits offs stack = or_kept (test_at (unblocked f) NotBlocking) lits offs stack (unpacked f lits offs stack)
 
 -- read_saved
 unfoldable pub reading : Limits → Layout → List ℕ → List ℕ → List ℕ → List ℕ → Loaded

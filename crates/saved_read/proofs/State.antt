@@ -1,413 +1,342 @@
 -- The scan over a form's lines: what holds between two lines, that a line keeps it, and what it comes to at a refusal and at the end. Assumes nothing.
 use mathlib.Core.Path.{◌≡◌, refl, sym, ap, ◌∙◌}
-use mathlib.Core.Bool.{true, false, cond, not}
+use mathlib.Core.Bool.{true, false, not}
 use mathlib.Core.List.{List, [], ◌∷◌, ◌++◌, append_assoc, append-nil}
 use mathlib.Core.Logic.{◌≢◌}
-use mathlib.Core.Option.{Option, none, some}
-use Prim.Native.Nat.{ℕ, zero, suc, ◌+◌, ◌-◌, ◌*◌, ◌≤◌, ◌<◌}
+use mathlib.Core.Option.{none, some}
+use Prim.Native.Nat.{ℕ, suc, ◌+◌, ◌-◌, ◌*◌, ◌/◌, ◌≤◌, ◌<◌}
 use native.Mathlib.Omega.{arith}
-use lib.Dec.{eqb, ltb, eqb-suc-zero}
-use lib.ListN.{length, get_or, take, drop, set, length-set}
-use lib.Seq.{drop-drop, get_or-set_same, get_or-set_other, take-nil}
-use borrow.Author.Tests.{eq-eqb, ne_eqb, eqb-true, leb-true, ltb-true, ltb-false, le-ltb}
+use denote.Ref.{Bor}
+use lib.Dec.{eqb, ltb}
+use lib.ListN.{length, get_or, take, drop, set, length-set, length-drop}
+use lib.Seq.{drop-drop, get_or-set_same, get_or-set_other}
+use borrow.Author.Tests.{eq-eqb, ne_eqb, leb-true, ltb-true, ltb-false, le-ltb}
+use Rattle.std.specs.Prelude.{Option, Some, None, is_some, Ok, Err}
 use Rattle.rules.specs.Walk.{upto}
-use Rattle.rules.specs.Clause.{mem}
-use Rattle.rules.proofs.Logic.{by_bool, by_eq, and_true, not_not}
+use Rattle.rules.specs.Clause.{Clause, mem}
+use Rattle.rules.proofs.Logic.{by_bool, by_eq, and_true}
 use Rattle.rules.proofs.Members.{mem_nil, mem_here, mem_other}
 use Rattle.table.specs.Limits.{base}
 use Rattle.table.specs.Stack.{entries}
-use Rattle.table.specs.Answer.{test, ◌then◌}
+use Rattle.table.specs.Answer.{test}
 use Rattle.table.specs.declared.Refusal.{Refusal}
 use Rattle.table.specs.declared.Refusal.TheVariants.{OverLimit, BadSaved}
+use Rattle.table.proofs.Laying.{tail_is}
 use Rattle.table.proofs.Stacks.{entries_push, length_push}
-use Rattle.saved.specs.Bytes.{numbers_from, numbers_of}
-use Rattle.saved.specs.Field.{narrow, tag_of, length_of, value_of, whole_field}
+use Rattle.saved.specs.Bytes.{numbers_of}
+use Rattle.saved.specs.Field.{narrow, tag_of, whole_field}
 use Rattle.saved.specs.Form.{Head, Line, number_of, blocking_of, heads_at, tag_at}
-use Rattle.table.specs.Res.{Res, fault, ok, on_ok}
+use Rattle.table.specs.Res.{Res, on_ok}
 use Rattle.saved.specs.Reading.{line_tests, line_length, line_limits, line_sound, new_number, line_at, end_tests, read_lines, literals_of, entries_of}
 use Rattle.table.proofs.Answers.{test_none}
 use Rattle.saved.proofs.Accepted.{passed}
-use Rattle.saved.proofs.Digits.{drop_numbers}
-use Rattle.saved.proofs.Fields.{value_size}
-use Rattle.saved_read.specs.Inner.{head_with, new_on, block_on, sound_on, line_or, tests_on, line_on, pushed_on, count_on, part_of, Within, Clear, AllRead}
-use Rattle.saved_read.specs.declared.NextLine.{NextLine}
-use Rattle.saved_read.proofs.Found.{then_assoc, whole_within}
+use Rattle.saved_read.specs.Inner.{kind_at, heads_of, Parts, is_met, new_on, sound_on, value_tests, front_of, line_on, value_at, push_block, pushed_on, count_on, row_in, Clear, AllRead}
+use Rattle.saved_read.specs.declared.Kind.{Kind}
+use Rattle.saved_read.specs.declared.Kind.TheVariants.{Live, Removed}
+use Rattle.saved_read.specs.declared.Front.{Front}
+use Rattle.saved_read.proofs.Numbers.{length_numbers, numbers_after}
+use Rattle.saved_read.proofs.Found.{given_by, refused_by, first_two, Found, lost}
 
--- the numbers met are those marked
-abbrev pub Marks : List ℕ → List ℕ → Type 0
-Marks met starts = (k : ℕ) → mem k met ≡ not (eqb (get_or starts k 0) 0)
+-- the numbers met are those whose parts are remembered
+abbrev pub Marks : List ℕ → Parts → Type 0
+Marks met parts = (k : ℕ) → mem k met ≡ is_met parts k
 
-mark : (met starts : List ℕ) (k o : ℕ) → k < length starts → Marks met starts → Marks (k ∷ met) (set starts k (suc o))
-mark met starts k o h r j =
-    by_eq j k (λ e. rw (e, mem_here k met, get_or-set_same starts k (suc o) 0 h, eqb-suc-zero o))
-    (λ e. rw (mem_other j k met e, get_or-set_other starts k j (suc o) 0 e) (r j))
+mark : (met : List ℕ) (parts : Parts) (k : ℕ) (v : Bor (List ℕ)) → k < length parts → Marks met parts → Marks (k ∷ met) (set parts k (Some v))
+mark met parts k v h r j =
+    by_eq j k (λ e. rw (e, mem_here k met, get_or-set_same parts k (Some v) None h))
+    (λ e. rw (mem_other j k met e, get_or-set_other parts k j (Some v) None e) (r j))
 
--- the tests on arrays are the definition's
-sound_same : (h : Head) (heads prev : ℕ) (met starts : List ℕ) (x : Line) → get_or met 0 0 ≡ prev → Marks met starts
-    → sound_on heads h.variables h.clauses prev starts x ≡ line_sound base narrow heads h met x
-unfolding sound_on line_sound new_on new_number block_on
-sound_same h heads prev met starts x p r = rw (← p, r (number_of x), not_not (eqb (get_or starts (number_of x) 0) 0))
+heads_same : (c r : ℕ) → heads_of (kind_at c r) ≡ heads_at c r
+heads_same c r = by_bool (ltb c r) (λ e. rw e) (λ e. rw e)
 
-tag_same : (c r : ℕ) → heads_at c r + 1 ≡ tag_at narrow c r
+tag_same : (c r : ℕ) → heads_of (kind_at c r) + 1 ≡ tag_at narrow c r
 tag_same c r = by_bool (ltb c r) (λ e. rw e) (λ e. rw e)
 
-module _ (h : Head) (c total prev : ℕ) (met starts b : List ℕ) (at : ℕ) (last : get_or met 0 0 ≡ prev) (marks : Marks met starts) where
-  abbrev H : ℕ
-  H = heads_at c h.removals
+-- the tests beside the parts remembered are the definition's
+sound_same : (kind : Kind) (h : Head) (last : ℕ) (met : List ℕ) (parts : Parts) (x : Line) → get_or met 0 0 ≡ last → Marks met parts
+    → sound_on kind h last parts x ≡ line_sound base narrow (heads_of kind) h met x
+unfolding sound_on line_sound new_number
+sound_same Live h last met parts x p r = rw p
+sound_same Removed h last met parts x p r = rw (r (number_of x))
 
-  tests_same : tests_on H h.variables h.clauses total prev starts b at ≡ line_tests base narrow h c total met b at
-  unfolding line_at
-  tests_same =
-      by_bool (whole_field b)
-      (λ w.
-      rw (value_size b w, sound_same h H prev met starts (numbers_of 2 (value_of b)) last marks, tag_same c h.removals)
-      (sym
-      (then_assoc (test (whole_field b) (BadSaved at)) _ _
-      ∙ ap (λ (o : Option Refusal). test (whole_field b) (BadSaved at) then o) (then_assoc (test (eqb (tag_of b) (tag_at narrow c h.removals)) (BadSaved at)) _ _))))
-      (λ w. rw w)
+module _ (h : Head) (c total last : ℕ) (met : List ℕ) (parts : Parts) (b : List ℕ) (at : ℕ) (is_last : get_or met 0 0 ≡ last) (marks : Marks met parts) where
+  abbrev kind : Kind
+  kind = kind_at c h.removals
+
+  pub field_lost : (x : Refusal) → Err x ≡ value_at b at (heads_of kind + 1) → line_tests base narrow h c total met (drop at b) at ≡ some x
+  field_lost x e =
+      rw (← tag_same c h.removals)
+      (first_two (test (whole_field (drop at b)) (BadSaved at)) (test (eqb (tag_of (drop at b)) (heads_of kind + 1)) (BadSaved at)) _ _ x
+      (lost b at (heads_of kind + 1) x e))
+
+  module _ (v : List ℕ) (f : Found b at (heads_of kind + 1) v) where
+    tests_same : line_tests base narrow h c total met (drop at b) at ≡ value_tests kind h total last parts v at
+    unfolding line_at
+    tests_same =
+        rw (
+          f.whole,
+          ← tag_same c h.removals,
+          f.tagged,
+          ← heads_same c h.removals,
+          ← f.size,
+          ← f.value,
+          ← sound_same kind h last met parts (numbers_of 2 v) is_last marks,
+        )
+
+    pub line_refused : (x : Refusal) → Err x ≡ line_on kind h total last parts v at → line_tests base narrow h c total met (drop at b) at ≡ some x
+    unfolding line_on
+    line_refused x e = tests_same ∙ refused_by (value_tests kind h total last parts v at) x (front_of kind (numbers_of 2 v)) e
+
+    pub line_taken : (y : Front) → Ok y ≡ line_on kind h total last parts v at
+        → (line_tests base narrow h c total met (drop at b) at ≡ none) × (value_tests kind h total last parts v at ≡ none) × (y ≡ front_of kind (numbers_of 2 v))
+    unfolding line_on
+    line_taken y e =
+        let o = given_by (value_tests kind h total last parts v at) y (front_of kind (numbers_of 2 v)) e in
+        (tests_same ∙ o.0, o.0, o.1)
 
 -- what a line that passes the tests keeps to
-pub record Kept (heads m total prev : ℕ) (starts b : List ℕ) (at : ℕ) (x : Line) : Type 0 where
-  pub whole : whole_field b ≡ true
-  pub long : 2 * heads ≤ length_of b
-  pub full : total + (length x - heads) ≤ 16_000
-  pub low : 1 ≤ number_of x
-  pub high : number_of x ≤ m
-  pub new : new_on heads prev starts (number_of x) ≡ true
+pub record Kept (kind : Kind) (h : Head) (total last : ℕ) (parts : Parts) (v : List ℕ) : Type 0 where
+  pub long : 2 * heads_of kind ≤ length v
+  pub full : total + (length (numbers_of 2 v) - heads_of kind) ≤ 16_000
+  pub low : 1 ≤ number_of (numbers_of 2 v)
+  pub high : number_of (numbers_of 2 v) ≤ h.clauses
+  pub new : new_on kind last parts (number_of (numbers_of 2 v)) ≡ true
 
-kept : (heads n m total prev : ℕ) (starts b : List ℕ) (at : ℕ) → tests_on heads n m total prev starts b at ≡ none
-    → Kept heads m total prev starts b at (numbers_of 2 (value_of b))
+kept : (kind : Kind) (h : Head) (total last : ℕ) (parts : Parts) (v : List ℕ) (at : ℕ) → value_tests kind h total last parts v at ≡ none
+    → Kept kind h total last parts v
 unfolding line_length line_limits sound_on
-kept heads n m total prev starts b at e =
-    let x = numbers_of 2 (value_of b) in
-    let p₁ = passed (whole_field b) (BadSaved at) _ e in
-    let p₂ = passed (eqb (tag_of b) (heads + 1)) (BadSaved at) _ p₁.1 in
-    let p₃ = passed (line_length base narrow heads (length (value_of b))) (BadSaved at) _ p₂.1 in
-    let p₄ = passed (line_limits base narrow heads total x) (OverLimit at) _ p₃.1 in
-    let p₅ = test_none (sound_on heads n m prev starts x) (BadSaved at) p₄.1 in
+kept kind h total last parts v at e =
+    let x = numbers_of 2 v in
+    let p₃ = passed (line_length base narrow (heads_of kind) (length v)) (BadSaved at) _ e in
+    let p₄ = passed (line_limits base narrow (heads_of kind) total x) (OverLimit at) _ p₃.1 in
+    let p₅ = test_none (sound_on kind h last parts x) (BadSaved at) p₄.1 in
     let q₃ = simp and_true at p₃.0 in
     let q₄ = simp and_true at p₄.0 in
     let q₅ = simp and_true at p₅ in
-    let s = value_size b p₁.0 in
-    let l = leb-true (2 * heads) (length (value_of b)) q₃.1 in
     record {
-      whole = p₁.0;
-      long = omega arith;
+      long = leb-true (2 * heads_of kind) (length v) q₃.1;
       full = leb-true _ _ q₄.1;
       low = leb-true _ _ q₅.0.0.0.0.0;
       high = leb-true _ _ q₅.0.0.0.0.1;
       new = q₅.1;
     }
 
--- the line that was read
-or_good : (o : Option Refusal) (k p q s e k' p' q' s' e' : ℕ) → NextLine.Good k p q s e ≡ line_or o (NextLine.Good k' p' q' s' e')
-    → (o ≡ none) × (k ≡ k') × (p ≡ p') × (q ≡ q') × (s ≡ s') × (e ≡ e')
-or_good none k p q s e k' p' q' s' e' h = (refl, cc, cc, cc, cc, cc)
-or_good (some r) k p q s e k' p' q' s' e' h = absurd (let z : ◌≡◌ {A = ℕ} 0 1 = cc in omega arith)
-
-or_refused : (o : Option Refusal) (f : Refusal) (k p q s e : ℕ) → NextLine.Refused f ≡ line_or o (NextLine.Good k p q s e) → o ≡ some f
-or_refused none f k p q s e h = absurd (let z : ◌≡◌ {A = ℕ} 0 1 = cc in omega arith)
-or_refused (some r) f k p q s e h = cc
+-- the clause that a part holds, or another where there is none
+abbrev pub row_or : Option (Bor (List ℕ)) → Clause → Clause
+row_or None C = C
+row_or (Some v) C = numbers_of 2 v.now
 
 -- between two lines: c lines are still to come
-pub record State (b : List ℕ) (n m t r : ℕ) (c prev total at : ℕ) (starts ends words : List ℕ) (count : ℕ) : Type 0 where
+pub record State (b : List ℕ) (h : Head) (c last total at : ℕ) (parts : Parts) (words : List ℕ) (count : ℕ) : Type 0 where
   pub done : List Line
   pub met : List ℕ
-  pub reads : read_lines base narrow (head_with n m t r) m [] 0 11 (drop 11 b)
-      ≡ on_ok (λ ys. done ++ ys) (read_lines base narrow (head_with n m t r) c met total at (drop at b))
-  pub last : get_or met 0 0 ≡ prev
-  pub marks : Marks met starts
-  pub fresh : r ≤ c → (k : ℕ) → prev < k → get_or starts k 0 ≡ 0
-  pub rows : (ys : List Line) (k : ℕ) → length ys ≡ c
-      → literals_of r (done ++ ys) k ≡ cond (eqb (get_or starts k 0) 0) (literals_of r ys k) (part_of b starts ends k)
-  pub within : Within b starts ends
-  pub stacked : (ys : List Line) → length ys ≡ c → entries_of r (done ++ ys) ≡ entries words count ++ entries_of r ys
-  pub few : count + c ≤ m
+  pub reads : read_lines base narrow h h.clauses [] 0 11 (drop 11 b) ≡ on_ok (λ ys. done ++ ys) (read_lines base narrow h c met total at (drop at b))
+  pub is_last : get_or met 0 0 ≡ last
+  pub marks : Marks met parts
+  pub fresh : h.removals ≤ c → (k : ℕ) → last < k → get_or parts k None ≡ None
+  pub rows : (ys : List Line) (k : ℕ) → length ys ≡ c → literals_of h.removals (done ++ ys) k ≡ row_or (get_or parts k None) (literals_of h.removals ys k)
+  pub stacked : (ys : List Line) → length ys ≡ c → entries_of h.removals (done ++ ys) ≡ entries words count ++ entries_of h.removals ys
+  pub few : count + c ≤ h.clauses
   pub full : total ≤ 16_000
   pub inside : at ≤ length b
-  pub starts_room : m < length starts
-  pub ends_room : m < length ends
-  pub words_room : 2 * m ≤ length words
+  pub parts_room : h.clauses < length parts
+  pub words_room : 2 * h.clauses ≤ length words
 
 on_none : {A : Type 0} (x : Res (List A)) → x ≡ on_ok (λ ys. [] ++ ys) x
-on_none (fault f) = refl
-on_none (ok a) = refl
+on_none (Err f) = refl
+on_none (Ok a) = refl
 
-pub state_start : (b : List ℕ) (n m t r : ℕ) (starts ends words : List ℕ) → Clear b n m r starts ends words → State b n m t r m 0 0 11 starts ends words 0
-state_start b n m t r starts ends words g = record {
+pub state_start : (b : List ℕ) (h : Head) (parts : Parts) (words : List ℕ) → h.clauses ≤ 4_000 → Clear b parts words → State b h h.clauses 0 0 11 parts words 0
+state_start b h parts words m g = record {
   done = [];
   met = [];
   reads = on_none _;
-  last = refl;
-  marks = λ k. rw (g.no_starts k) (mem_nil k);
-  fresh = λ l k u. g.no_starts k;
-  rows = λ ys k l. rw (g.no_starts k);
-  within = λ k. (rw (g.no_starts k) (omega arith), rw (g.no_ends k) (omega arith), λ e. g.no_ends k);
+  is_last = refl;
+  marks = λ k. rw (g.none_met k) (mem_nil k);
+  fresh = λ l k u. g.none_met k;
+  rows = λ ys k l. rw (g.none_met k);
   stacked = λ ys l. unfold entries upto in refl;
   few = omega arith;
   full = omega arith;
   inside = g.long;
-  starts_room = g.starts_room;
-  ends_room = g.ends_room;
-  words_room = g.words_room;
+  parts_room = let r = g.parts_room in omega arith;
+  words_room = let r = g.words_room in omega arith;
 }
 
 -- one line more before the rest
 on_cons : (done : List Line) (x : Line) (w : Res (List Line)) → on_ok (λ ys. done ++ ys) (on_ok (λ ys. x ∷ ys) w) ≡ on_ok (λ ys. (done ++ x ∷ []) ++ ys) w
-on_cons done x (fault f) = refl
-on_cons done x (ok ys) = ap ok (sym (append_assoc done (x ∷ []) ys))
+on_cons done x (Err f) = refl
+on_cons done x (Ok ys) = ap Ok (sym (append_assoc done (x ∷ []) ys))
 
--- a line's literals are the part between their places
-part_line : (h len at : ℕ) (b : List ℕ) → whole_field (drop at b) ≡ true → length_of (drop at b) ≡ len → 2 * h ≤ len
-    → numbers_of 2 (take (at + 3 + len - (at + 3 + 2 * h)) (drop (at + 3 + 2 * h) b)) ≡ drop h (numbers_of 2 (value_of (drop at b)))
-part_line h len at b w e l =
-    let v = value_of (drop at b) in
-    let s : length v ≡ len = value_size (drop at b) w ∙ e in
-    let n : at + 3 + len - (at + 3 + 2 * h) ≡ len - 2 * h = omega arith in
-    let a = drop_numbers 2 h v (omega arith) (omega arith) in
-    let q : drop (2 * h) v ≡ take (len - 2 * h) (drop (at + 3 + 2 * h) b) =
-    unfold value_of in rw (e, drop-drop 3 at b) (drop_of_take (2 * h) len (drop (at + 3) b) l ∙ rw (drop-drop (2 * h) (at + 3) b)) in
-    rw (n, ← q) a
-  where
-    drop_of_take : (i n : ℕ) (d : List ℕ) → i ≤ n → drop i (take n d) ≡ take (n - i) (drop i d)
-    drop_of_take zero n d u = let z : n - 0 ≡ n = omega arith in rw z
-    drop_of_take (suc i) zero d u = absurd (omega arith)
-    drop_of_take (suc i) (suc n) [] u = sym (take-nil (suc n - suc i))
-    drop_of_take (suc i) (suc n) (y ∷ d) u = let z : suc n - suc i ≡ n - i = omega arith in rw z (drop_of_take i n d (omega arith))
+is_none : {A : Type 0} (o : Option A) → not (is_some o) ≡ true → o ≡ None
+is_none None e = refl
+is_none (Some a) e = absurd (cc)
 
-module _ (b : List ℕ) (n m t r : ℕ) (c prev total at : ℕ) (starts ends words : List ℕ) (count : ℕ)
-    (g : State b n m t r (suc c) prev total at starts ends words count) where
-  abbrev heads : ℕ
-  heads = heads_at c r
+module _ (b : List ℕ) (h : Head) (c last total at : ℕ) (parts : Parts) (words : List ℕ) (count : ℕ) (g : State b h (suc c) last total at parts words count) where
+  abbrev K : Kind
+  K = kind_at c h.removals
 
-  abbrev hd : Head
-  hd = head_with n m t r
-
-  abbrev x : Line
-  x = numbers_of 2 (value_of (drop at b))
-
-  pub state_refused : (f : Refusal) → NextLine.Refused f ≡ line_on heads n m total prev starts b at
-      → read_lines base narrow hd m [] 0 11 (drop 11 b) ≡ fault f
-  unfolding line_on read_lines
-  state_refused f e =
-      let o = or_refused (tests_on heads n m total prev starts (drop at b) at) f _ _ _ _ _ e in
-      let q = sym (tests_same hd c total prev g.met starts (drop at b) at g.last g.marks) ∙ o in
-      g.reads ∙ rw q
-
-  module _ (k p q s e : ℕ) (good : NextLine.Good k p q s e ≡ line_on heads n m total prev starts b at) where
-    parts : (tests_on heads n m total prev starts (drop at b) at ≡ none) × (k ≡ number_of x) × (p ≡ cond (eqb heads 1) 0 (blocking_of x)) × (q ≡ length x - heads)
-        × (s ≡ at + 3 + 2 * heads) × (e ≡ at + 3 + length_of (drop at b))
-    unfolding line_on
-    parts = or_good (tests_on heads n m total prev starts (drop at b) at) k p q s e _ _ _ _ _ good
-
-    pub holds : Kept heads m total prev starts (drop at b) at x
-    holds = kept heads n m total prev starts (drop at b) at parts.0
-
-    pub most : k ≤ m
-    most = rw parts.1 holds.high
-
-    pub new_full : total + q ≤ 16_000
-    new_full = rw parts.3 holds.full
-
-    pub new_inside : e ≤ length b
-    new_inside = rw parts.5 (whole_within b at 0 holds.whole)
-
-    ordered : s ≤ e
-    ordered = let l = holds.long in let a = parts.4 in let z = parts.5 in omega arith
-
-    positive : 0 < s
-    positive = let a = parts.4 in omega arith
-
-    rising : r ≤ c → prev < k
-    unfolding new_on
-    rising l = rw parts.1 (ltb-true prev (number_of x) (rw (le-ltb c r l) at holds.new))
-
-    was_fresh : get_or starts k 0 ≡ 0
-    unfolding new_on
-    was_fresh =
-        by_bool (ltb c r)
-        (λ y. rw parts.1 (eqb-true (get_or starts (number_of x) 0) 0 (rw y at holds.new)))
-        (λ y. let l = ltb-false c r y in g.fresh (omega arith) k (rising (omega arith)))
-
-    next_reads : read_lines base narrow hd m [] 0 11 (drop 11 b)
-        ≡ on_ok (λ ys. (g.done ++ x ∷ []) ++ ys) (read_lines base narrow hd c (k ∷ g.met) (total + q) e (drop e b))
-    unfolding read_lines line_at
-    next_reads =
-        let z = sym (tests_same hd c total prev g.met starts (drop at b) at g.last g.marks) ∙ parts.0 in
-        let a : at + (3 + length_of (drop at b)) ≡ e = omega (arith, parts.5) in
-        g.reads ∙ rw (z, drop-drop (3 + length_of (drop at b)) at b, a, ← parts.1, ← parts.3) (on_cons g.done x (read_lines base narrow hd c (k ∷ g.met) (total + q) e (drop e b)))
-
-    row_here : (ys : List Line) → length ys ≡ c → literals_of r (x ∷ ys) k ≡ part_of b (set starts k s) (set ends k e) k
-    unfolding literals_of part_of
-    row_here ys l =
-        let sr = g.starts_room in
-        let er = g.ends_room in
-        let mo = most in
-        let a = get_or-set_same starts k s 0 (omega arith) in
-        let d = get_or-set_same ends k e 0 (omega arith) in
-        let y = part_line heads (length_of (drop at b)) at b holds.whole refl holds.long in
-        rw (eq-eqb (number_of x) k (sym parts.1), l, a, d, parts.4, parts.5) (sym y)
-
-    row_other : (ys : List Line) (j : ℕ) → j ≢ k
-        → cond (eqb (get_or starts j 0) 0) (literals_of r (x ∷ ys) j) (part_of b starts ends j)
-        ≡ cond (eqb (get_or (set starts k s) j 0) 0) (literals_of r ys j) (part_of b (set starts k s) (set ends k e) j)
-    unfolding literals_of part_of
-    row_other ys j i =
-        rw (ne_eqb (number_of x) j (λ z. i (sym z ∙ sym parts.1)), get_or-set_other starts k j s 0 i, get_or-set_other ends k j e 0 i)
-
-    row_set : (ys : List Line) → length ys ≡ c
-        → cond (eqb (get_or starts k 0) 0) (literals_of r (x ∷ ys) k) (part_of b starts ends k)
-        ≡ cond (eqb (get_or (set starts k s) k 0) 0) (literals_of r ys k) (part_of b (set starts k s) (set ends k e) k)
-    row_set ys l =
-        let sr = g.starts_room in
-        let mo = most in
-        let po = positive in
-        let a = get_or-set_same starts k s 0 (omega arith) in
-        let z : eqb (get_or (set starts k s) k 0) 0 ≡ false = rw a (ne_eqb s 0 (λ z. omega arith)) in
-        rw (was_fresh, z) (row_here ys l)
-
-    next_rows : (ys : List Line) (j : ℕ) → length ys ≡ c
-        → literals_of r ((g.done ++ x ∷ []) ++ ys) j
-        ≡ cond (eqb (get_or (set starts k s) j 0) 0) (literals_of r ys j) (part_of b (set starts k s) (set ends k e) j)
-    next_rows ys j l =
-        rw (append_assoc g.done (x ∷ []) ys)
-        (g.rows (x ∷ ys) j (ap suc l) ∙ by_eq j k (λ i. rw i (row_set ys l)) (row_other ys j))
-
-    next_within : Within b (set starts k s) (set ends k e)
-    next_within j =
-        by_eq j k
-        (λ i.
-        let sr = g.starts_room in
-        let er = g.ends_room in
-        let mo = most in
-        let po = positive in
-        let a = get_or-set_same starts k s 0 (omega arith) in
-        let d = get_or-set_same ends k e 0 (omega arith) in
-        rw (i, a, d) (ordered, new_inside, λ z. absurd (omega arith)))
-        (λ i. rw (get_or-set_other starts k j s 0 i, get_or-set_other ends k j e 0 i) (g.within j))
-
-    stacked_gone : (ys : List Line) → length ys ≡ c → ltb c r ≡ true
-        → entries words count ++ entries_of r (x ∷ ys) ≡ entries (pushed_on heads count k p words) (count_on heads count) ++ entries_of r ys
-    unfolding entries_of pushed_on count_on
-    stacked_gone ys l y =
-        let fe = g.few in
-        let wr = g.words_room in
-        let a = entries_push words count k p (omega arith) in
-        let kp : p ≡ blocking_of x = parts.2 ∙ rw y in
-        rw (l, y, a, append_assoc (entries words count) ((k, p) ∷ []) (entries_of r ys), ← parts.1, ← kp)
-
-    stacked_live : (ys : List Line) → length ys ≡ c → ltb c r ≡ false
-        → entries words count ++ entries_of r (x ∷ ys) ≡ entries (pushed_on heads count k p words) (count_on heads count) ++ entries_of r ys
-    unfolding entries_of pushed_on count_on
-    stacked_live ys l y = rw (l, y)
-
-    next_stacked : (ys : List Line) → length ys ≡ c
-        → entries_of r ((g.done ++ x ∷ []) ++ ys) ≡ entries (pushed_on heads count k p words) (count_on heads count) ++ entries_of r ys
-    next_stacked ys l =
-        rw (append_assoc g.done (x ∷ []) ys) (g.stacked (x ∷ ys) (ap suc l) ∙ by_bool (ltb c r) (stacked_gone ys l) (stacked_live ys l))
-
-    next_few : count_on heads count + c ≤ m
-    unfolding count_on
-    next_few = let fe = g.few in by_bool (ltb c r) (λ y. rw y (omega arith)) (λ y. rw y (omega arith))
-
-    next_room : 2 * m ≤ length (pushed_on heads count k p words)
-    unfolding pushed_on
-    next_room = by_bool (ltb c r) (λ y. rw (y, length_push words count k p) g.words_room) (λ y. rw y g.words_room)
-
-    next_marks : Marks (k ∷ g.met) (set starts k s)
-    next_marks =
-        let po = positive in
-        let i : s ≡ suc (s - 1) = omega arith in
-        let sr = g.starts_room in
-        let mo = most in
-        rw i (mark g.met starts k (s - 1) (omega arith) g.marks)
-
-    pub state_next : State b n m t r c k (total + q) e (set starts k s) (set ends k e) (pushed_on heads count k p words) (count_on heads count)
-    state_next = record {
-      done = g.done ++ x ∷ [];
-      met = k ∷ g.met;
-      reads = next_reads;
-      last = refl;
-      marks = next_marks;
-      fresh = λ l j u.
-          get_or-set_other starts k j s 0 (λ i. absurd (omega arith)) ∙ g.fresh (omega arith) j (let z = rising l in omega arith);
-      rows = next_rows;
-      within = next_within;
-      stacked = next_stacked;
-      few = next_few;
-      full = new_full;
-      inside = new_inside;
-      starts_room = rw (length-set starts k s) g.starts_room;
-      ends_room = rw (length-set ends k e) g.ends_room;
-      words_room = next_room;
-    }
-
--- the end
-module _ (b : List ℕ) (n m t r : ℕ) (prev total at : ℕ) (starts ends words : List ℕ) (count : ℕ)
-    (g : State b n m t r zero prev total at starts ends words count) where
-  pub end_refused : (f : Refusal) → end_tests base narrow (head_with n m t r) total (drop at b) at ≡ some f
-      → read_lines base narrow (head_with n m t r) m [] 0 11 (drop 11 b) ≡ fault f
+  pub state_lost : (x : Refusal) → Err x ≡ value_at b at (heads_of K + 1) → read_lines base narrow h h.clauses [] 0 11 (drop 11 b) ≡ Err x
   unfolding read_lines
-  end_refused f e = g.reads ∙ rw e
+  state_lost x e = g.reads ∙ rw (field_lost h c total last g.met parts b at g.is_last g.marks x e)
 
-  no_part : (k : ℕ) → get_or starts k 0 ≡ 0 → [] ≡ part_of b starts ends k
-  unfolding part_of
-  no_part k e = rw (e, (g.within k).2 e) (unfold numbers_of numbers_from in refl)
+  module _ (v : List ℕ) (f : Found b at (heads_of K + 1) v) where
+    abbrev x : Line
+    x = numbers_of 2 v
 
-  pub end_read : end_tests base narrow (head_with n m t r) total (drop at b) at ≡ none → AllRead b n m t r starts ends words count
+    pub state_refused : (r : Refusal) → Err r ≡ line_on K h total last parts v at → read_lines base narrow h h.clauses [] 0 11 (drop 11 b) ≡ Err r
+    unfolding read_lines
+    state_refused r e = g.reads ∙ rw (line_refused h c total last g.met parts b at g.is_last g.marks v f r e)
+
+    module _ (y : Front) (good : Ok y ≡ line_on K h total last parts v at) where
+      taken : (line_tests base narrow h c total g.met (drop at b) at ≡ none) × (value_tests K h total last parts v at ≡ none) × (y ≡ front_of K x)
+      taken = line_taken h c total last g.met parts b at g.is_last g.marks v f y good
+
+      pub holds : Kept K h total last parts v
+      holds = kept K h total last parts v at taken.1
+
+      abbrev k : ℕ
+      k = y.number
+
+      number : k ≡ number_of x
+      number = ap (λ (z : Front). z.number) taken.2
+
+      block : y.block ≡ (front_of K x).block
+      block = ap (λ (z : Front). z.block) taken.2
+
+      pub most : k ≤ h.clauses
+      most = rw number holds.high
+
+      rising : h.removals ≤ c → last < k
+      rising l = rw number (ltb-true last (number_of x) (rw (le-ltb c h.removals l) at holds.new))
+
+      was_fresh : get_or parts k None ≡ None
+      was_fresh =
+          by_bool (ltb c h.removals)
+          (λ i. rw number (is_none (get_or parts (number_of x) None) (rw i at holds.new)))
+          (λ i. let l = ltb-false c h.removals i in g.fresh (omega arith) k (rising (omega arith)))
+
+      module _ (u : Bor (List ℕ)) (part : u.now ≡ take (length v - 2 * heads_of K) (drop (2 * heads_of K) v)) where
+        abbrev parts₂ : Parts
+        parts₂ = set parts k (Some u)
+
+        row : numbers_of 2 u.now ≡ drop (heads_at c h.removals) x
+        row = ap (numbers_of 2) part ∙ sym (numbers_after (heads_of K) v holds.long) ∙ ap (λ (i : ℕ). drop i x) (heads_same c h.removals)
+
+        many : length u.now / 2 ≡ length x - heads_of K
+        many =
+            let a = length_numbers u.now in
+            let d = length_numbers v in
+            let z = ap length (part ∙ tail_is v (2 * heads_of K)) ∙ length-drop (2 * heads_of K) v in
+            let l = holds.long in
+            omega arith
+
+        pub new_full : total + length u.now / 2 ≤ 16_000
+        new_full = let m = many in let w = holds.full in omega arith
+
+        next_reads : read_lines base narrow h h.clauses [] 0 11 (drop 11 b)
+            ≡ on_ok (λ ys. (g.done ++ x ∷ []) ++ ys) (read_lines base narrow h c (k ∷ g.met) (total + length u.now / 2) (at + (3 + length v)) (drop (at + (3 + length v)) b))
+        unfolding read_lines line_at
+        next_reads =
+            g.reads
+            ∙ rw (taken.0, ← f.size, ← f.value, drop-drop (3 + length v) at b, ← number, ← heads_same c h.removals, ← many)
+            (on_cons g.done x (read_lines base narrow h c (k ∷ g.met) (total + length u.now / 2) (at + (3 + length v)) (drop (at + (3 + length v)) b)))
+
+        row_here : (ys : List Line) → length ys ≡ c → literals_of h.removals (x ∷ ys) k ≡ numbers_of 2 u.now
+        unfolding literals_of
+        row_here ys l = rw (eq-eqb (number_of x) k (sym number), l) (sym row)
+
+        row_other : (ys : List Line) (j : ℕ) → j ≢ k → literals_of h.removals (x ∷ ys) j ≡ literals_of h.removals ys j
+        unfolding literals_of
+        row_other ys j i = rw (ne_eqb (number_of x) j (λ z. i (sym z ∙ sym number)))
+
+        next_rows : (ys : List Line) (j : ℕ) → length ys ≡ c
+            → literals_of h.removals ((g.done ++ x ∷ []) ++ ys) j ≡ row_or (get_or parts₂ j None) (literals_of h.removals ys j)
+        next_rows ys j l =
+            let pr = g.parts_room in
+            let mo = most in
+            rw (append_assoc g.done (x ∷ []) ys)
+            (g.rows (x ∷ ys) j (ap suc l)
+            ∙ by_eq j k
+            (λ i. rw (i, was_fresh, get_or-set_same parts k (Some u) None (omega arith)) (row_here ys l))
+            (λ i. rw (get_or-set_other parts k j (Some u) None i, row_other ys j i)))
+
+        stacked_gone : (ys : List Line) → length ys ≡ c → ltb c h.removals ≡ true
+            → entries words count ++ entries_of h.removals (x ∷ ys) ≡ entries (pushed_on y count words) (count_on y count) ++ entries_of h.removals ys
+        unfolding entries_of pushed_on count_on
+        stacked_gone ys l i =
+            let fe = g.few in
+            let wr = g.words_room in
+            let a = entries_push words count k (blocking_of x) (omega arith) in
+            let d : y.block ≡ Some (blocking_of x) = block ∙ rw i in
+            rw (l, i, d, a, append_assoc (entries words count) ((k, blocking_of x) ∷ []) (entries_of h.removals ys), ← number)
+
+        stacked_live : (ys : List Line) → length ys ≡ c → ltb c h.removals ≡ false
+            → entries words count ++ entries_of h.removals (x ∷ ys) ≡ entries (pushed_on y count words) (count_on y count) ++ entries_of h.removals ys
+        unfolding entries_of pushed_on count_on
+        stacked_live ys l i = let d : y.block ≡ None = block ∙ rw i in rw (l, i, d)
+
+        next_stacked : (ys : List Line) → length ys ≡ c
+            → entries_of h.removals ((g.done ++ x ∷ []) ++ ys) ≡ entries (pushed_on y count words) (count_on y count) ++ entries_of h.removals ys
+        next_stacked ys l =
+            rw (append_assoc g.done (x ∷ []) ys)
+            (g.stacked (x ∷ ys) (ap suc l) ∙ by_bool (ltb c h.removals) (stacked_gone ys l) (stacked_live ys l))
+
+        next_few : count_on y count + c ≤ h.clauses
+        unfolding count_on
+        next_few = let fe = g.few in by_bool (is_some y.block) (λ i. rw i (omega arith)) (λ i. rw i (omega arith))
+
+        next_room : 2 * h.clauses ≤ length (pushed_on y count words)
+        unfolding pushed_on
+        next_room = room y.block
+          where
+            room : (o : Option ℕ) → 2 * h.clauses ≤ length (push_block words count k o)
+            room None = g.words_room
+            room (Some p) = rw (length_push words count k p) g.words_room
+
+        pub state_next : State b h c k (total + length u.now / 2) (at + (3 + length v)) parts₂ (pushed_on y count words) (count_on y count)
+        state_next = record {
+          done = g.done ++ x ∷ [];
+          met = k ∷ g.met;
+          reads = next_reads;
+          is_last = refl;
+          marks = mark g.met parts k u (let pr = g.parts_room in let mo = most in omega arith) g.marks;
+          fresh = λ l j i.
+              get_or-set_other parts k j (Some u) None (λ e. absurd (omega arith)) ∙ g.fresh (omega arith) j (let z = rising l in omega arith);
+          rows = next_rows;
+          stacked = next_stacked;
+          few = next_few;
+          full = new_full;
+          inside = let w = f.within in omega arith;
+          parts_room = rw (length-set parts k (Some u)) g.parts_room;
+          words_room = next_room;
+        }
+
+-- the same, as the code counts the lines that were read
+pub one_left : {b : List ℕ} {h : Head} {read last total at : ℕ} {parts : Parts} {words : List ℕ} {count : ℕ} → read < h.clauses
+    → State b h (h.clauses - read) last total at parts words count → State b h (suc (h.clauses - read - 1)) last total at parts words count
+one_left {h = h} {read = read} l g = let e : h.clauses - read ≡ suc (h.clauses - read - 1) = omega arith in rw e at g
+
+pub none_left : {b : List ℕ} {h : Head} {read last total at : ℕ} {parts : Parts} {words : List ℕ} {count : ℕ} → h.clauses ≤ read
+    → State b h (h.clauses - read) last total at parts words count → State b h 0 last total at parts words count
+none_left {h = h} {read = read} l g = let e : h.clauses - read ≡ 0 = omega arith in rw e at g
+
+-- at the end
+module _ (b : List ℕ) (h : Head) (last total at : ℕ) (parts : Parts) (words : List ℕ) (count : ℕ) (g : State b h 0 last total at parts words count) where
+  pub end_refused : (x : Refusal) → end_tests base narrow h total (drop at b) at ≡ some x → read_lines base narrow h h.clauses [] 0 11 (drop 11 b) ≡ Err x
+  unfolding read_lines
+  end_refused x e = g.reads ∙ rw e
+
+  row_end : (k : ℕ) (o : Option (Bor (List ℕ))) → row_or o (literals_of h.removals [] k) ≡ row_in o
+  unfolding literals_of
+  row_end k None = refl
+  row_end k (Some u) = refl
+
+  pub end_read : end_tests base narrow h total (drop at b) at ≡ none → AllRead b h parts words count
   end_read e = record {
     lines = g.done;
     read = g.reads ∙ unfold read_lines in rw (e, append-nil g.done);
-    rows = λ k.
-        ap (λ (xs : List Line). literals_of r xs k) (sym (append-nil g.done))
-        ∙ g.rows [] k refl
-        ∙ by_eq (get_or starts k 0) 0 (λ i. rw (eq-eqb (get_or starts k 0) 0 i) (unfold literals_of in no_part k i)) (λ i. rw (ne_eqb (get_or starts k 0) 0 i));
-    within = g.within;
-    stacked = ap (entries_of r) (sym (append-nil g.done)) ∙ g.stacked [] refl ∙ unfold entries_of in append-nil (entries words count);
+    rows = λ k. ap (λ (xs : List Line). literals_of h.removals xs k) (sym (append-nil g.done)) ∙ g.rows [] k refl ∙ row_end k (get_or parts k None);
+    stacked = ap (entries_of h.removals) (sym (append-nil g.done)) ∙ g.stacked [] refl ∙ unfold entries_of in append-nil (entries words count);
     few = let u = g.few in omega arith;
   }
-
--- the same, as the code has it
-module _ (b : List ℕ) (n m t r : ℕ) where
-  pub go_refused : (c prev total at : ℕ) (starts ends words : List ℕ) (count heads : ℕ) (f : Refusal) → 0 < c
-      → State b n m t r c prev total at starts ends words count → heads ≡ heads_at (c - 1) r → NextLine.Refused f ≡ line_on heads n m total prev starts b at
-      → read_lines base narrow (head_with n m t r) m [] 0 11 (drop 11 b) ≡ fault f
-  go_refused zero prev total at starts ends words count heads f l g h e = absurd (omega arith)
-  go_refused (suc c) prev total at starts ends words count heads f l g h e =
-      let i : suc c - 1 ≡ c = omega arith in
-      let j : heads ≡ heads_at c r = rw i at h in
-      state_refused b n m t r c prev total at starts ends words count g f (rw j at e)
-
-  pub go_bounds : (c prev total at : ℕ) (starts ends words : List ℕ) (count heads k p q s e : ℕ) → 0 < c
-      → State b n m t r c prev total at starts ends words count → heads ≡ heads_at (c - 1) r → NextLine.Good k p q s e ≡ line_on heads n m total prev starts b at
-      → (k ≤ m) × (total + q ≤ 16_000) × (e ≤ length b)
-  go_bounds zero prev total at starts ends words count heads k p q s e l g h z = absurd (omega arith)
-  go_bounds (suc c) prev total at starts ends words count heads k p q s e l g h z =
-      let i : suc c - 1 ≡ c = omega arith in
-      let j : heads ≡ heads_at c r = rw i at h in
-      let y = rw j at z in (
-        most b n m t r c prev total at starts ends words count g k p q s e y,
-        new_full b n m t r c prev total at starts ends words count g k p q s e y,
-        new_inside b n m t r c prev total at starts ends words count g k p q s e y,
-      )
-
-  pub go_next : (c prev total at : ℕ) (starts ends words : List ℕ) (count heads k p q s e : ℕ) (words₂ : List ℕ) (count₂ : ℕ) → 0 < c
-      → State b n m t r c prev total at starts ends words count → heads ≡ heads_at (c - 1) r → NextLine.Good k p q s e ≡ line_on heads n m total prev starts b at
-      → count₂ ≡ count_on heads count → words₂ ≡ pushed_on heads count k p words
-      → State b n m t r (c - 1) k (total + q) e (set starts k s) (set ends k e) words₂ count₂
-  go_next zero prev total at starts ends words count heads k p q s e words₂ count₂ l g h z u w = absurd (omega arith)
-  go_next (suc c) prev total at starts ends words count heads k p q s e words₂ count₂ l g h z u w =
-      let i : suc c - 1 ≡ c = omega arith in
-      let j : heads ≡ heads_at c r = rw i at h in
-      rw (i, u, w, j) (state_next b n m t r c prev total at starts ends words count g k p q s e (rw j at z))
-
-  pub go_end_refused : (c prev total at : ℕ) (starts ends words : List ℕ) (count : ℕ) (f : Refusal) → c ≤ 0
-      → State b n m t r c prev total at starts ends words count → end_tests base narrow (head_with n m t r) total (drop at b) at ≡ some f
-      → read_lines base narrow (head_with n m t r) m [] 0 11 (drop 11 b) ≡ fault f
-  go_end_refused zero prev total at starts ends words count f l g e = end_refused b n m t r prev total at starts ends words count g f e
-  go_end_refused (suc c) prev total at starts ends words count f l g e = absurd (omega arith)
-
-  pub go_end : (c prev total at : ℕ) (starts ends words : List ℕ) (count : ℕ) → c ≤ 0 → State b n m t r c prev total at starts ends words count
-      → end_tests base narrow (head_with n m t r) total (drop at b) at ≡ none → AllRead b n m t r starts ends words count
-  go_end zero prev total at starts ends words count l g e = end_read b n m t r prev total at starts ends words count g e
-  go_end (suc c) prev total at starts ends words count l g e = absurd (omega arith)

@@ -1,146 +1,119 @@
 // Every fault of a form and its place: K2 with bytes changed, cut off or added.
-use crate::form;
-use forms::{all_kept, reads, reads_into};
-use saved_read::Restored;
-use say::lay;
+use crate::form::K2;
+use anyhow::Context;
+use forms::{Kept, reads, reads_into};
+use lines::Case;
+use say::lent::Buffers;
+use std::alloc::{AllocError, Global};
+use std::io;
+use std::str::FromStr;
+use table::Refusal;
 
-// Makes a change such as 3=07, and answers the place behind it; with no change, the place behind K2.
-fn change(t: &mut [u8], one: &[u8]) -> usize {
-    if one.len() == 0 {
-        return 63;
-    }
-    let at = lines::number(lines::piece(one, b'=', 0));
-    lay::byte(t, at, lines::hex_byte(lines::piece(one, b'=', 1)))
+// A change of a form, such as 3=07.
+#[derive(Clone, Copy, Debug)]
+struct Change {
+    place: usize,
+    byte: u8,
 }
 
-// Makes the changes that blanks part, and answers where the form ends: as K2 does, or behind the change at 63.
-fn change_all(t: &mut [u8], changes: &[u8]) -> usize {
-    let mut end = 63;
-    let mut i = 0;
-    while i < changes.len() {
-        if change(t, lines::piece(changes, b' ', i)) == 64 {
-            end = 64;
+impl Change {
+    // Puts the byte at its place, or behind a form that ends before it.
+    fn make_in(self, form: &mut Vec<u8>) -> Result<(), AllocError> {
+        match form.get_mut(self.place) {
+            Some(byte) => *byte = self.byte,
+            None => form.push(self.byte)?,
         }
-        i += 1;
+        Ok(())
     }
-    end
+}
+
+impl FromStr for Change {
+    type Err = anyhow::Error;
+
+    fn from_str(s: &str) -> anyhow::Result<Change> {
+        let (place, byte) = s.split_once('=').context("a change has no byte")?;
+        Ok(Change {
+            place: place.parse()?,
+            byte: u8::from_str_radix(byte, 16)?,
+        })
+    }
 }
 
 // Reads K2 with the changes of a line.
-pub fn reads_line(line: &[u8]) {
-    let mut form = [0u8; 64];
-    form::k2(&mut form);
-    let end = change_all(&mut form, lines::piece(line, b'|', 2));
-    reads(lines::piece(line, b'|', 0), &form, end);
-}
-
-// What came of a form: its refusal's number and place, or two zeros, and whether the buffers are as they came.
-#[derive(Clone, Copy)]
-struct Fault {
-    number: usize,
-    place: usize,
-    kept: bool,
-}
-
-// What comes of a form that is read into lent buffers.
-fn fault_into(form: &[u8], lits: &mut [u16], offs: &mut [u32], stack: &mut [u32]) -> Fault {
-    match saved_read::read_saved(form, lits, offs, stack) {
-        Restored::Counts(_, _, _) => Fault {
-            number: 0,
-            place: 0,
-            kept: false,
-        },
-        Restored::Refused(r) => {
-            let told = table::told(r);
-            let kept = all_kept(lits, 0, offs, 0, stack, 0);
-            Fault {
-                number: told.number,
-                place: told.place,
-                kept: kept,
-            }
-        }
+pub fn reads_case(rt: &impl Print, alloc: Global, case: Case<'_>) -> anyhow::Result<()> {
+    let mut form = Vec::from_slice(alloc, &K2)?;
+    for text in case.field(2).split_ascii_whitespace() {
+        text.parse::<Change>()?.make_in(&mut form)?;
     }
+    reads(rt, alloc, case.field(0), &form)?;
+    Ok(())
+}
+
+// What came of a form: its refusal, if it was refused, and whether the buffers are as they came.
+#[derive(Clone, Copy, Debug, PartialEq, Eq)]
+struct Fault {
+    refusal: Option<Refusal>,
+    is_kept: bool,
 }
 
 // What comes of a form that is read into buffers that have exactly the room asked for.
-fn fault_of(form: &[u8]) -> Fault {
-    let mut lits = [7u16; 16000];
-    let mut offs = [7u32; 4001];
-    let mut stack = [7u32; 8000];
-    fault_into(form, &mut lits, &mut offs, &mut stack)
-}
-
-// Whether two forms came to something different.
-fn differ(a: Fault, b: Fault) -> bool {
-    if a.number != b.number {
-        return true;
-    }
-    if a.place != b.place {
-        return true;
-    }
-    if a.kept {
-        return !b.kept;
-    }
-    b.kept
+fn fault_of(alloc: Global, form: &[u8]) -> io::Result<Fault> {
+    let mut buffers = forms::buffers(alloc)?;
+    let refusal = forms::read(form, &mut buffers).err();
+    Ok(Fault {
+        refusal,
+        is_kept: buffers.are_kept(),
+    })
 }
 
 // The prefixes from one length to another, which came to the same.
-fn say_prefixes(from: usize, to: usize, f: Fault) {
-    say::text(b"the first ");
-    say::count(from, b" to ");
-    say::count(to, b" bytes of K2: refused ");
-    say::count(f.number, b" at ");
-    say::number(f.place);
-    forms::kept(f.kept);
+fn say_prefixes(rt: &impl Print, from: usize, to: usize, fault: Fault) -> io::Result<()> {
+    print!(rt; "the first {from} to {to} bytes of K2: ")?;
+    match fault.refusal {
+        Some(refusal) => println!(rt; "{refusal}{}", Kept(fault.is_kept)),
+        None => println!(rt; "read"),
+    }
 }
 
 // Reads each prefix of K2 that is shorter than K2, a line for each run of the same refusals.
-pub fn prefixes() {
-    let mut form = [0u8; 63];
-    form::k2(&mut form);
+pub fn prefixes(rt: &impl Print, alloc: Global) -> io::Result<()> {
     let mut from = 0;
-    let mut last = fault_of(&form[0..0]);
-    let mut i = 1;
-    while i < 63 {
-        let f = fault_of(&form[0..i]);
-        if differ(f, last) {
-            say_prefixes(from, i - 1, last);
-            from = i;
-            last = f;
-        }
-        i += 1;
-    }
-    say_prefixes(from, 62, last);
-}
-
-// Reads a form into buffers with so much room.
-fn reads_within(label: &[u8], form: &[u8], a: usize, b: usize, c: usize) {
-    let mut lits = [7u16; 16000];
-    let mut offs = [7u32; 4001];
-    let mut stack = [7u32; 8000];
-    if a <= 16000 {
-        if b <= 4001 {
-            if c <= 8000 {
-                reads_into(
-                    label,
-                    form,
-                    &mut lits[0..a],
-                    &mut offs[0..b],
-                    &mut stack[0..c],
-                );
-            }
+    let mut last = fault_of(alloc, &[])?;
+    for len in 1..K2.len() {
+        let fault = fault_of(alloc, &K2[..len])?;
+        if fault != last {
+            say_prefixes(rt, from, len - 1, last)?;
+            from = len;
+            last = fault;
         }
     }
+    say_prefixes(rt, from, K2.len() - 1, last)
 }
 
 // Buffers with a cell too few, for K2 and for a form with a fault: 3 comes first.
-pub fn short_buffers() {
-    let mut form = [0u8; 63];
-    form::k2(&mut form);
-    reads_within(b"15999 literals", &form, 15999, 4001, 8000);
-    reads_within(b"4000 offsets", &form, 16000, 4000, 8000);
-    reads_within(b"7999 stack words", &form, 16000, 4001, 7999);
-    reads_within(b"15999 literals, no form", &[], 15999, 4001, 8000);
-    reads_within(b"4000 offsets, no form", &[], 16000, 4000, 8000);
-    reads_within(b"7999 stack words, no form", &[], 16000, 4001, 7999);
+pub fn short_buffers(rt: &impl Print, alloc: Global) -> io::Result<()> {
+    for (end, form) in [("", K2.as_slice()), (", no form", &[])] {
+        let mut short = Buffers::new(alloc, 15999, 4001, 8000)?;
+        reads_into(
+            rt,
+            &format!(in alloc; "15999 literals{end}")?,
+            form,
+            &mut short,
+        )?;
+        let mut short = Buffers::new(alloc, 16000, 4000, 8000)?;
+        reads_into(
+            rt,
+            &format!(in alloc; "4000 offsets{end}")?,
+            form,
+            &mut short,
+        )?;
+        let mut short = Buffers::new(alloc, 16000, 4001, 7999)?;
+        reads_into(
+            rt,
+            &format!(in alloc; "7999 stack words{end}")?,
+            form,
+            &mut short,
+        )?;
+    }
+    Ok(())
 }

@@ -5,40 +5,26 @@
 // the byte that comes there.
 #![tactic(auto)]
 
+mod faults; // faults.rt: every fault of a form
 mod form; // form.rt: K2 laid down by hand, and a form printed
 mod writes; // writes.rt: K2 both ways, and the writer's refusals
-mod faults; // faults.rt: every fault of a form
 
-use say::lent::same_bytes;
+use lines::Case;
 
-// Makes the call that a line names.
-fn runs(line: &[u8]) {
-    if same_bytes(lines::piece(line, b'|', 1), b"write") {
-        writes::writes_line(line);
-    } else {
-        faults::reads_line(line);
-    }
-}
-
-// Runs each line.
-fn runs_lines(table: &[u8]) {
-    let mut i = 0;
-    while i < table.len() {
-        let line = lines::piece(table, b'\n', i);
-        if line.len() == 0 {
-            return;
+// Runs each line, and what is too long for one.
+fn main(rt: HostRuntime) -> anyhow::Result<()> {
+    let alloc = rt.alloc();
+    writes::k2(&rt, alloc)?;
+    for line in rt.lines(alloc) {
+        let line = line?;
+        let case = Case { line: &line };
+        if case.field(1) == "write" {
+            writes::writes_case(&rt, alloc, case)?;
+        } else {
+            faults::reads_case(&rt, alloc, case)?;
         }
-        runs(line);
-        i += 1;
     }
-}
-
-// Runs it all.
-fn main() {
-    writes::k2();
-    let mut table = [0u8; 8192];
-    let got = io::read_full(0, &mut table);
-    runs_lines(&table[..got]);
-    faults::prefixes();
-    faults::short_buffers();
+    faults::prefixes(&rt, alloc)?;
+    faults::short_buffers(&rt, alloc)?;
+    Ok(())
 }

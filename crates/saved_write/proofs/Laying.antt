@@ -1,8 +1,8 @@
 -- Bytes laid down at the front of a buffer, and more of them in its unused tail. Assumes nothing.
 use mathlib.Core.Path.{◌≡◌, refl, sym, ap, ◌∙◌}
-use mathlib.Core.List.{List, [], ◌∷◌, ◌++◌, append-nil}
-use Prim.Native.Nat.{ℕ, suc, ◌+◌, ◌-◌, ◌*◌, ◌/◌, ◌%◌, ◌<◌}
-use native.Mathlib.Nat.{mod-eq_of_lt, div-one}
+use mathlib.Core.List.{List, [], ◌∷◌, ◌++◌, append-nil, append_assoc}
+use Prim.Native.Nat.{ℕ, ◌+◌, ◌-◌, ◌*◌, ◌/◌, ◌%◌, ◌<◌}
+use native.Mathlib.Nat.{div-one}
 use native.Mathlib.Omega.{arith}
 use borrow.Rule.Slice.PartMut.{put_mid}
 use lib.ListN.{length, get_or, take, drop, length-append}
@@ -28,9 +28,9 @@ pub put_same : {b c old new : List ℕ} {r : ℕ} → b ≡ c → Put b old new 
 put_same e p = rw (← e) p
 
 -- numbers
-pub two_digits : (x : ℕ) → x < 65536 → digits 2 x ≡ (x / 256) ∷ (x % 256) ∷ []
+pub two_digits : (x : ℕ) → digits 2 x ≡ (x / 256 % 256) ∷ (x % 256) ∷ []
 unfolding digits
-two_digits x h = let a : x / 256 < 256 = omega arith in rw (mod-eq_of_lt a, div-one x)
+two_digits x = rw (div-one x)
 
 pub bytes_more : (xs : List ℕ) (i : ℕ) → i < length xs → bytes_of 2 (take (i + 1) xs) ≡ bytes_of 2 (take i xs) ++ digits 2 (get_or xs i 0)
 bytes_more xs i h = rw (take_more xs i h) (bytes_append 2 (take i xs) (get_or xs i 0 ∷ []) ∙ ap (λ (z : List ℕ). bytes_of 2 (take i xs) ++ z) last)
@@ -38,20 +38,15 @@ bytes_more xs i h = rw (take_more xs i h) (bytes_append 2 (take i xs) (get_or xs
     last : bytes_of 2 (get_or xs i 0 ∷ []) ≡ digits 2 (get_or xs i 0)
     last = unfold bytes_of in append-nil (digits 2 (get_or xs i 0))
 
--- a field's parts as they are laid down
-pub live_field : (number : ℕ) (lits : List ℕ) → (2 ∷ digits 2 (2 * length lits + 2)) ++ digits 2 number ++ bytes_of 2 lits ≡ field 2 2 (number ∷ lits)
-unfolding digits bytes_of field
-live_field number lits =
-    let e : 2 * length lits + 2 ≡ 2 * suc (length lits) = omega arith in
-    ap (λ (n : ℕ). (2 ∷ digits 2 n) ++ digits 2 number ++ bytes_of 2 lits) e
-
-pub removed_field : (number blocking : ℕ) (lits : List ℕ)
-    → (3 ∷ digits 2 (2 * length lits + 4)) ++ digits 2 number ++ digits 2 blocking ++ bytes_of 2 lits ≡ field 2 3 (number ∷ blocking ∷ lits)
-unfolding digits bytes_of field
-removed_field number blocking lits =
-    let e : 2 * length lits + 4 ≡ 2 * suc (suc (length lits)) = omega arith in
-    ap (λ (n : ℕ). (3 ∷ digits 2 n) ++ digits 2 number ++ digits 2 blocking ++ bytes_of 2 lits) e
+-- a field whose numbers are laid down in two parts
+pub field_parts : (tag : ℕ) (front lits : List ℕ)
+    → (tag ∷ digits 2 (2 * (length front + length lits)) ++ bytes_of 2 front) ++ bytes_of 2 lits ≡ field 2 tag (front ++ lits)
+unfolding field
+field_parts tag front lits =
+    rw (length-append front lits, bytes_append 2 front lits)
+    (append_assoc (tag ∷ digits 2 (2 * (length front + length lits))) (bytes_of 2 front) (bytes_of 2 lits))
 
 -- a field that was laid down in parts
-pub put_field : (tag : ℕ) (xs : List ℕ) {b old new : List ℕ} {r : ℕ} → b ≡ field 2 tag xs → new ≡ lay b old → r ≡ 3 + 2 * length xs → Put (field 2 tag xs) old new r
-put_field tag xs {b} {old} e h n = record { long = n ∙ sym (length_field 2 tag xs); laid = h ∙ ap (λ (z : List ℕ). lay z old) e }
+pub put_laid : (tag : ℕ) (xs : List ℕ) {b old new : List ℕ} {r : ℕ} → b ≡ field 2 tag xs → new ≡ lay b old
+    → r ≡ 3 + 2 * length xs → Put (field 2 tag xs) old new r
+put_laid tag xs {b} {old} e h n = record { long = n ∙ sym (length_field 2 tag xs); laid = h ∙ ap (λ (z : List ℕ). lay z old) e }

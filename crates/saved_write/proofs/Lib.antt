@@ -1,4 +1,5 @@
 pub mod Laying
+pub mod Limits
 pub mod Sections
 pub mod Refusals
 pub mod Once

@@ -5,19 +5,19 @@ use mathlib.Core.List.{List, [], ◌∷◌}
 use Prim.Native.Nat.{ℕ}
 use lib.Dec.{leb}
 use lib.ListN.{length}
+use Rattle.std.specs.Prelude.{Result}
 use Rattle.table.specs.Limits.{base}
 use Rattle.table.specs.Table.{Table}
 use Rattle.table.specs.Stack.{entries}
 use Rattle.table.specs.Answer.{refused, test, ◌then◌, Outcome, outcome}
+use Rattle.table.specs.declared.Refusal.{Refusal}
 use Rattle.table.specs.declared.Refusal.TheVariants.{NoRoom}
-use Rattle.table.proofs.Answers.{paper_one_to_one, not_answered, decided_keeps}
+use Rattle.table.proofs.Answers.{reply_one_to_one, decided_keeps}
 use Rattle.stack.specs.Tests.{lent_tests, blocking_tests}
 use Rattle.saved.specs.Field.{narrow}
 use Rattle.saved.specs.Form.{encode}
 use Rattle.saved.specs.Saved.{writing}
 use Rattle.saved_write.specs.Written.{written}
-use Rattle.saved_write.specs.declared.Written.{Written}
-use Rattle.saved_write.specs.declared.Written.TheVariants.{Length, Refused}
 
 -- a refusal leaves the output as it came
 pub write_saved_keeps : (t : Table) (ws : List ℕ) (c : ℕ) (out : List ℕ) (number place : ℕ)
@@ -30,14 +30,14 @@ write_saved_keeps t ws c out = decided_keeps
     out _ _
 
 -- the answers are told one to one
-pub written_one_to_one : (a b : Written) → written a ≡ written b → a ≡ b
-written_one_to_one (Length a) (Length b) h = cc
-written_one_to_one (Length a) (Refused r) h = absurd (not_answered r (a ∷ []) h)
-written_one_to_one (Refused r) (Length b) h = absurd (not_answered r (b ∷ []) (sym h))
-written_one_to_one (Refused r) (Refused q) h = ap Written.Refused (paper_one_to_one r q h)
+pub written_one_to_one : (a b : Result ℕ Refusal) → written a ≡ written b → a ≡ b
+written_one_to_one a b h = reply_one_to_one _ (λ x y e. same x y e) a b h
+  where
+    same : (x y : ℕ) → (x ∷ []) ≡ (y ∷ []) → x ≡ y
+    same x y e = cc
 
 -- two answers, with what they leave in the output, that are both equal to the definition are the same
-pub write_saved_once : (t : Table) (ws : List ℕ) (c : ℕ) (out : List ℕ) (a b : Written) (xs ys : List ℕ)
+pub write_saved_once : (t : Table) (ws : List ℕ) (c : ℕ) (out : List ℕ) (a b : Result ℕ Refusal) (xs ys : List ℕ)
     → outcome (written a) xs ≡ writing base narrow t ws c out → outcome (written b) ys ≡ writing base narrow t ws c out → (a ≡ b) × (xs ≡ ys)
 write_saved_once t ws c out a b xs ys h k =
     let e = h ∙ sym k in

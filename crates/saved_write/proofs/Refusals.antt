@@ -1,6 +1,6 @@
 -- The writer's tests in the order of document 01: what the call comes to at the first that refuses, and where none does. Assumes nothing.
 use mathlib.Core.Path.{◌≡◌, sym, ◌∙◌}
-use mathlib.Core.Bool.{true}
+use mathlib.Core.Bool.{Bool, true}
 use mathlib.Core.List.{List, [], ◌∷◌}
 use mathlib.Core.Option.{some}
 use Prim.Native.Nat.{ℕ, ◌+◌, ◌*◌, ◌≤◌, ◌<◌}
@@ -8,16 +8,18 @@ use native.Mathlib.Omega.{arith}
 use borrow.Author.Tests.{le-leb, lt-leb}
 use lib.Dec.{leb}
 use lib.ListN.{length}
+use Rattle.std.specs.Prelude.{Some, None}
 use Rattle.table.specs.Limits.{base}
 use Rattle.table.specs.Table.{Table, offset}
 use Rattle.table.specs.Stack.{entries, lay}
 use Rattle.table.specs.Answer.{answered, refused, paper, test, test_at, ◌then◌, outcome, decided}
 use Rattle.table.specs.declared.Refusal.{Refusal}
 use Rattle.table.specs.declared.Refusal.TheVariants.{NoRoom, NotBlocking}
-use Rattle.table.proofs.Answers.{test_at_some, nowhere}
+use Rattle.table.proofs.Answers.{test_found}
+use Rattle.table.proofs.Found.{found_none}
 use Rattle.table.proofs.Stacks.{length_entries}
 use Rattle.stack.specs.Tests.{bad_entry, lent_tests, unblocked_entry}
-use Rattle.stack.specs.Inner.{Passed, Checked, Open}
+use Rattle.stack.specs.Inner.{Passed, Checked}
 use Rattle.stack.proofs.Refusals.{passed_lent}
 use Rattle.saved.specs.Field.{narrow}
 use Rattle.saved.specs.Form.{encode}
@@ -30,11 +32,6 @@ pub counted_length : (t : Table) (ws : List ℕ) (c : ℕ) → Passed t ws c
 counted_length t ws c p =
     let e = encode_length t (entries ws c) p.table_sound (unfold bad_entry in p.none_bad) in
     omega (arith, length_entries ws c)
-
--- where every entry's literal blocks, the marks are those of the live clauses
-pub checked_open : (t : Table) (ws : List ℕ) (c : ℕ) {marks : List ℕ} {r : ℕ} → Passed t ws c → Checked t ws c marks r → r ≤ 0 → t.clauses < length marks
-    → Open t ws c marks
-checked_open t ws c p k h m = record { passed = p; marks_many = m; live = k.live (omega arith) }
 
 module _ (t : Table) (ws : List ℕ) (c : ℕ) (out : List ℕ) where
   -- one of the tests that come first refuses
@@ -50,20 +47,19 @@ module _ (t : Table) (ws : List ℕ) (c : ℕ) (out : List ℕ) where
     unfolding writing
     left = rw (passed_lent t ws c p)
 
-    module _ {marks : List ℕ} {r : ℕ} (k : Checked t ws c marks r) where
-      pub writing_unblocked : 0 < r → outcome (refused 6 r) out ≡ writing base narrow t ws c out
-      writing_unblocked l = sym (left ∙ rw (test_at_some _ NotBlocking k.unblocked l))
+    pub writing_unblocked : {marks : List Bool} (place : ℕ) → Checked t ws c marks (Some place) → outcome (refused 6 place) out ≡ writing base narrow t ws c out
+    writing_unblocked place k = sym (left ∙ rw (test_found _ NotBlocking k.unblocked))
 
-      module _ (h : r ≤ 0) {len : ℕ} (e : len ≡ 14 + 5 * t.clauses + 2 * c + 2 * offset t t.clauses) where
-        exact : len ≡ length (encode narrow t (entries ws c))
-        exact = e ∙ sym (counted_length t ws c p)
+    module _ {marks : List Bool} (k : Checked t ws c marks None) {len : ℕ} (e : len ≡ 14 + 5 * t.clauses + 2 * c + 2 * offset t t.clauses) where
+      exact : len ≡ length (encode narrow t (entries ws c))
+      exact = e ∙ sym (counted_length t ws c p)
 
-        pub writing_cramped : length out < len → outcome (refused 3 0) out ≡ writing base narrow t ws c out
-        writing_cramped l = sym (left ∙ rw (nowhere _ k.unblocked h, lt-leb _ _ (rw exact at l)))
+      pub writing_cramped : length out < len → outcome (refused 3 0) out ≡ writing base narrow t ws c out
+      writing_cramped l = sym (left ∙ rw (found_none _ k.unblocked, lt-leb _ _ (rw exact at l)))
 
-        pub room_enough : len ≤ length out → length (encode narrow t (entries ws c)) ≤ length out
-        room_enough l = rw exact at l
+      pub room_enough : len ≤ length out → length (encode narrow t (entries ws c)) ≤ length out
+      room_enough l = rw exact at l
 
-        pub writing_done : len ≤ length out → {new : List ℕ} → new ≡ lay (encode narrow t (entries ws c)) out
-            → outcome (answered (len ∷ [])) new ≡ writing base narrow t ws c out
-        writing_done l n = sym (left ∙ rw (nowhere _ k.unblocked h, le-leb _ _ (room_enough l), n, exact))
+      pub writing_done : len ≤ length out → {new : List ℕ} → new ≡ lay (encode narrow t (entries ws c)) out
+          → outcome (answered (len ∷ [])) new ≡ writing base narrow t ws c out
+      writing_done l n = sym (left ∙ rw (found_none _ k.unblocked, le-leb _ _ (room_enough l), n, exact))

@@ -1,8 +1,7 @@
 -- The form's bytes in their parts, header, live clauses, removed clauses and end, and each part grown field by field. Assumes nothing.
 use mathlib.Core.Path.{◌≡◌, refl, sym, ap, ◌∙◌}
-use mathlib.Core.Bool.{true, cond}
+use mathlib.Core.Bool.{Bool, true, false, cond}
 use mathlib.Core.List.{List, [], ◌∷◌, ◌++◌, append_assoc, append-nil}
-use mathlib.Core.Logic.{◌≢◌}
 use Prim.Native.Nat.{ℕ, zero, suc, ◌+◌, ◌*◌, ◌≤◌, ◌<◌}
 use native.Mathlib.Nat.{le_refl, le_trans}
 use native.Mathlib.Numerals.{add-one}
@@ -19,9 +18,7 @@ use Rattle.table.specs.Stack.{entry_at, entries}
 use Rattle.table.proofs.Soundness.{sound_of, row_short}
 use Rattle.table.proofs.Stacks.{length_entries}
 use Rattle.index.specs.Index.{live_of}
-use Rattle.index.proofs.Marks.{live_here, live_gone}
 use Rattle.stack.specs.Tests.{live_after}
-use Rattle.stack.specs.Inner.{Open}
 use Rattle.saved.specs.Field.{narrow, end_tag, field}
 use Rattle.saved.specs.Form.{Line, head_bytes, lines_bytes, form_bytes, live_lines, removed_lines, form_of, encode}
 use Rattle.saved.proofs.Lengths.{length_field, removed_count}
@@ -105,37 +102,38 @@ module _ (t : Table) (L : Live) where
   live_start old = put_none old
 
 -- one clause
-module _ (t : Table) (marks : List ℕ) (k : ℕ) where
-  line_here : get_or marks k 0 ≡ 1 → fields_of 2 (live_line t (live_of marks) k) ≡ field 2 2 (k ∷ row t k)
-  unfolding live_line
-  line_here h = rw (live_here marks k h) (fields_one 2 (k ∷ row t k))
+module _ (t : Table) (marks : List Bool) (k : ℕ) where
+  line_here : get_or marks k false ≡ true → fields_of 2 (live_line t (live_of marks) k) ≡ field 2 2 (k ∷ row t k)
+  unfolding live_line live_of
+  line_here h = rw h (fields_one 2 (k ∷ row t k))
 
-  pub line_gone : get_or marks k 0 ≢ 1 → fields_of 2 (live_line t (live_of marks) k) ≡ []
-  unfolding live_line fields_of
-  line_gone h = rw (live_gone marks k h)
+  pub line_gone : get_or marks k false ≡ false → fields_of 2 (live_line t (live_of marks) k) ≡ []
+  unfolding live_line live_of fields_of
+  line_gone h = rw h
 
 module _ (t : Table) (s : sound base t ≡ true) (k : ℕ) (l : 1 ≤ k) (u : k ≤ t.clauses) {C : List ℕ} (e : C ≡ row t k) where
-  pub live_written : (marks : List ℕ) → get_or marks k 0 ≡ 1 → field 2 2 (k ∷ C) ≡ fields_of 2 (live_line t (live_of marks) k)
+  pub live_written : (marks : List Bool) → get_or marks k false ≡ true → field 2 2 (k ∷ C) ≡ fields_of 2 (live_line t (live_of marks) k)
   live_written marks h = rw e (sym (line_here t marks k h))
 
-  pub live_fits : (marks : List ℕ) → get_or marks k 0 ≡ 1 → {len : ℕ} → length (fields_of 2 (live_line t (live_of marks) k)) ≤ len
-      → (length C ≤ 1000) × (2 * length C + 5 ≤ len)
+  short : length C ≤ 1000
+  short = rw e (row_short t (sound_of t s) k l u)
+
+  pub live_fits : (marks : List Bool) → get_or marks k false ≡ true → {len : ℕ} → length (fields_of 2 (live_line t (live_of marks) k)) ≤ len
+      → (length C ≤ 1000) × (3 + 2 * (1 + length C) ≤ len)
   live_fits marks h room =
       let a = ap length (live_written marks h) in
       let b = length_field 2 2 (k ∷ C) in
-      let d : length C ≤ 1000 = rw e (row_short t (sound_of t s) k l u) in
-      (d, omega arith)
+      (short, omega arith)
 
   pub removed_written : (x : ℕ) → field 2 3 (k ∷ x ∷ C) ≡ field 2 3 (removed_line t (k, x))
   unfolding removed_line
   removed_written x = rw e
 
-  pub removed_fits : (x : ℕ) {len : ℕ} → length (field 2 3 (removed_line t (k, x))) ≤ len → (length C ≤ 1000) × (2 * length C + 7 ≤ len)
+  pub removed_fits : (x : ℕ) {len : ℕ} → length (field 2 3 (removed_line t (k, x))) ≤ len → (length C ≤ 1000) × (3 + 2 * (2 + length C) ≤ len)
   removed_fits x room =
       let a = ap length (removed_written x) in
       let b = length_field 2 3 (k ∷ x ∷ C) in
-      let d : length C ≤ 1000 = rw e (row_short t (sound_of t s) k l u) in
-      (d, omega arith)
+      (short, omega arith)
 
 -- the removed clauses, one more
 removed_append : (t : Table) (s : List (Entry literal)) (e : Entry literal) → removed_lines t (s ++ e ∷ []) ≡ removed_lines t s ++ removed_line t e ∷ []
@@ -169,14 +167,14 @@ module _ (t : Table) (ws : List ℕ) where
   unfolding entries upto removed_lines fields_of
   removed_start old = put_none old
 
--- the whole form of a table and its open stack
-module _ (t : Table) (ws : List ℕ) (c : ℕ) (marks : List ℕ) (o : Open t ws c marks) where
+-- the whole form of a table and its open stack, whose live clauses are marked
+module _ (t : Table) (ws : List ℕ) (c : ℕ) (marks : List Bool) (marked : live_of marks ≡ live_after t ws c) where
   abbrev pub head_fields : List ℕ
   head_fields = field 2 1 (t.variables ∷ t.clauses ∷ offset t t.clauses ∷ c ∷ [])
 
   live_marked : live_of marks ≡ after literal (all (book_of t)) (entries ws c)
   unfolding live_after
-  live_marked = o.live
+  live_marked = marked
 
   pub form_whole : head_fields ++ live_fields t (live_of marks) t.clauses ++ removed_fields t ws c ++ field 2 end_tag [] ≡ encode narrow t (entries ws c)
   form_whole = rw (encode_parts t (entries ws c), live_marked, length_entries ws c)

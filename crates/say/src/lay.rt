@@ -1,74 +1,49 @@
-// Bytes and long clauses laid into a buffer.
+// Long clauses and their offsets.
+ghost use Rattle.std.specs.Prelude.{◌≡◌, ◌+◌, ◌<◌, ◌≤◌, IfOk, vec_len};
 
-// Lays a byte at a place, and answers the next place; a full buffer stays as it is.
-pub fn byte(t: &mut [u8], at: usize, b: u8) -> usize {
-    if at < t.len() {
-        t[at] = b;
-        return at + 1;
-    }
-    at
-}
-
-// Lays bytes at a place, and answers the place behind them.
-pub fn bytes(t: &mut [u8], at: usize, s: &[u8]) -> usize {
-    let mut next = at;
-    let mut i = 0;
-    while i < s.len() {
-        next = byte(t, next, s[i]);
-        i += 1;
-    }
-    next
-}
+use std::alloc::{AllocError, Global};
 
 // Literal number i of a long clause, from 0: no literal comes again among the first 2,000, no negation comes of any, and the order is not a rising one.
-pub fn code(i: usize) -> u16 {
+pub fn code(i: usize) -> u16
+    ensures low { 2 ≤ result }
+    ensures high { result ≤ 4001 }
+{
     (i % 2000 * 619 % 2000 * 2 + 2 + i % 2) as u16
 }
 
-// The code at a place, starting anew after each `width` of them.
-fn code_within(i: usize, width: usize) -> u16 {
-    if 0 < width {
-        return code(i % width);
-    }
-    0
+// So many codes, starting anew after each `width` of them.
+pub fn codes(alloc: Global, many: usize, width: usize) -> Result<Vec<u16>, AllocError>
+    requires { 0 < width }
+    ensures { IfOk result (λ codes. vec_len codes ≡ many) }
+{
+    (0..many).map(|i| code(i % width)).collect(alloc)
 }
 
-// Lays codes over a whole buffer, starting anew after each `width` of them.
-pub fn codes(lits: &mut [u16], width: usize) {
-    let mut i = 0;
-    while i < lits.len() {
-        lits[i] = code_within(i, width);
-        i += 1;
-    }
+// The offsets of so many clauses of `step` literals.
+pub fn offsets(alloc: Global, clauses: u16, step: u16) -> Result<Vec<u32>, AllocError>
+    ensures { IfOk result (λ offs. vec_len offs ≡ clauses + 1) }
+{
+    (0..=clauses)
+        .map(|k| u32::from(k) * u32::from(step))
+        .collect(alloc)
 }
 
-// The offset behind a clause of `step` literals.
-fn offset_behind(a: u32, step: u32) -> u32 {
-    if a <= 16000 {
-        if step <= 1001 {
-            return a + step;
-        }
-    }
-    a
-}
+#[cfg(test)]
+mod tests {
+    use super::*;
+    use std::test::Fail;
 
-// Lays the offsets of clauses of one length over a whole buffer.
-pub fn offsets(offs: &mut [u32], step: u32) {
-    let mut next = 0;
-    let mut i = 0;
-    while i < offs.len() {
-        offs[i] = next;
-        next = offset_behind(next, step);
-        i += 1;
+    #[test]
+    fn codes_start_anew(rt: HostRuntime) -> Result<(), Fail> {
+        let codes = codes(rt.alloc(), 3, 2)?;
+        assert_eq!(rt; codes.as_slice(), [2, 1241, 2].as_slice());
+        Ok(())
     }
-}
 
-// Lays as many literals as there may be, 16 clauses of 1,000, and a clause of one literal behind them.
-pub fn all_literals(lits: &mut [u16], offs: &mut [u32]) {
-    codes(lits, 1000);
-    offsets(offs, 1000);
-    if offs.len() <= 17 {
-        return;
+    #[test]
+    fn offsets_step(rt: HostRuntime) -> Result<(), Fail> {
+        let offs = offsets(rt.alloc(), 2, 1000)?;
+        assert_eq!(rt; offs.as_slice(), [0, 1000, 2000].as_slice());
+        Ok(())
     }
-    offs[17] = 16001;
 }

@@ -1,82 +1,107 @@
-// Whether a lent buffer is as it should be: all sevens, as it came, or the same as another; and the total that offsets tell.
+// Buffers of sevens that are lent to a reader, and what it leaves in them.
+ghost use Rattle.std.specs.Prelude.{◌≡◌, ◌&&◌, ◌+◌, ◌-◌, ◌^◌, ◌<◌, ◌==◌, IfOk, take, drop, get_or, vec_len};
+ghost use Rattle.std.specs.List.{list_all};
 
-// Whether every byte from a place on is 7.
-pub fn bytes_kept(bs: &[u8], from: usize) -> bool {
-    let mut i = from;
-    while i < bs.len() {
-        if bs[i] != 7 {
-            return false;
-        }
-        i += 1;
-    }
-    true
+use std::alloc::{AllocError, Global};
+use table::Table;
+
+// Whether each item is the one given.
+pub fn all_are<T: PartialEq>(items: &[T], wanted: &T) -> bool
+    ensures { result ≡ list_all (λ x. T.eq x wanted.now) items.now }
+{
+    items.iter().all(|x| x == wanted)
 }
 
-// Whether every literal code from a place on is 7.
-pub fn codes_kept(lits: &[u16], from: usize) -> bool {
-    let mut i = from;
-    while i < lits.len() {
-        if lits[i] != 7 {
-            return false;
-        }
-        i += 1;
-    }
-    true
+// The offset behind the last clause: how many literals the clauses have.
+pub fn total(table: &Table<'_>) -> usize
+    ensures { result ≡ get_or table.now.offs.now table.now.clauses 0 }
+{
+    table.offs.get(table.clauses).map_or(0, |end| *end as usize)
 }
 
-// Whether every word from a place on is 7.
-pub fn words_kept(ws: &[u32], from: usize) -> bool {
-    let mut i = from;
-    while i < ws.len() {
-        if ws[i] != 7 {
-            return false;
-        }
-        i += 1;
-    }
-    true
+// The first so many items, and those behind them.
+pub fn cut<T>(items: &[T], at: usize) -> (&[T], &[T])
+    ensures front { result.0.now ≡ take at items.now }
+    ensures behind { result.1.now ≡ drop at items.now }
+{
+    items.split_at(at.min(items.len()))
 }
 
-// Whether two slices have the same bytes.
-pub fn same_bytes(a: &[u8], b: &[u8]) -> bool {
-    if a.len() != b.len() {
-        return false;
-    }
-    let mut i = 0;
-    while i < a.len() {
-        if i < b.len() {
-            if a[i] != b[i] {
-                return false;
-            }
-        }
-        i += 1;
-    }
-    true
+// The buffers that a reader is lent.
+#[derive(Debug, Drop)]
+pub struct Buffers {
+    pub lits: Vec<u16>,
+    pub offs: Vec<u32>,
+    pub stack: Vec<u32>,
 }
 
-// Whether two slices have so many words, and the same ones.
-pub fn same_words(a: &[u32], b: &[u32], many: usize) -> bool {
-    let mut i = 0;
-    while i < many {
-        if a.len() <= i {
-            return false;
-        }
-        if b.len() <= i {
-            return false;
-        }
-        if a[i] != b[i] {
-            return false;
-        }
-        i += 1;
+// What a reader leaves in its buffers: the table, the stack's words, and whether all that is behind them is as it came.
+#[derive(Clone, Copy, Debug)]
+pub struct Left<'a> {
+    pub table: Table<'a>,
+    pub stack: &'a [u32],
+    pub is_rest_kept: bool,
+}
+
+impl Buffers {
+    // Buffers of sevens with so much room.
+    pub fn new(alloc: Global, lits: usize, offs: usize, stack: usize) -> Result<Self, AllocError>
+        ensures lits { IfOk result (λ b. vec_len b.lits ≡ lits) }
+        ensures offs { IfOk result (λ b. vec_len b.offs ≡ offs) }
+        ensures stack { IfOk result (λ b. vec_len b.stack ≡ stack) }
+    {
+        Ok(Buffers {
+            lits: vec![in alloc; 7; lits]?,
+            offs: vec![in alloc; 7; offs]?,
+            stack: vec![in alloc; 7; stack]?,
+        })
     }
-    true
+
+    // Whether they are as they came.
+    pub fn are_kept(&self) -> bool
+        ensures { result ≡ (list_all (λ x. x == 7) self.now.lits.items
+            && (list_all (λ x. x == 7) self.now.offs.items && list_all (λ x. x == 7) self.now.stack.items)) }
+    {
+        all_are(&self.lits, &7) && all_are(&self.offs, &7) && all_are(&self.stack, &7)
+    }
+
+    // What they hold of a table and a stack of so many entries.
+    pub fn left(&self, variables: usize, clauses: usize, removals: usize) -> Left<'_>
+        ensures variables { result.table.variables ≡ variables }
+        ensures clauses { result.table.clauses ≡ clauses }
+        ensures offs { clauses < 2 ^ 64 - 1 → result.table.offs.now ≡ take (clauses + 1) self.now.offs.items }
+    {
+        let (offs, offs_behind) = cut(&self.offs, clauses.saturating_add(1));
+        let total = offs.last().map_or(0, |end| *end as usize);
+        let (lits, lits_behind) = cut(&self.lits, total);
+        let (stack, stack_behind) = cut(&self.stack, removals.saturating_mul(2));
+        Left {
+            table: Table {
+                variables,
+                clauses,
+                lits,
+                offs,
+            },
+            stack,
+            is_rest_kept: all_are(lits_behind, &7)
+                && all_are(offs_behind, &7)
+                && all_are(stack_behind, &7),
+        }
+    }
 }
 
-// An offset as an index.
-fn wide(x: u32) -> usize {
-    x as usize
-}
+#[cfg(test)]
+mod tests {
+    use super::*;
+    use std::test::Fail;
 
-// The offset behind clause m: how many literals the clauses up to m have.
-pub fn total(offs: &[u32], m: usize) -> usize {
-    if m < offs.len() { wide(offs[m]) } else { 0 }
+    #[test]
+    fn buffers_have_the_room_asked_for(rt: HostRuntime) -> Result<(), Fail> {
+        let mut buffers = Buffers::new(rt.alloc(), 3, 2, 4)?;
+        assert_eq!(rt; buffers.lits.len(), 3);
+        assert!(rt; buffers.are_kept());
+        buffers.stack.push(8)?;
+        assert!(rt; !buffers.are_kept());
+        Ok(())
+    }
 }

@@ -5,11 +5,12 @@ use mathlib.Core.List.{List, []}
 use mathlib.Core.Option.{Option, none, some}
 use Prim.Native.Nat.{ℕ, zero, suc, ◌-◌, ◌≤◌, ◌<◌}
 use native.Mathlib.Omega.{arith}
+use Rattle.std.specs.Prelude.{Result, Ok, Err, Some}
+use Rattle.rules.specs.Walk.{found}
+use Rattle.table.proofs.Found.{found_some}
 use Rattle.table.specs.declared.Refusal.{Refusal}
 use Rattle.table.specs.declared.Refusal.TheVariants.{BadText, OverLimit, NoRoom, BadTable, BadStack, NotBlocking, BadName, BadValues, NotModel, BadSaved}
-use Rattle.table.specs.declared.Verdict.{Verdict}
-use Rattle.table.specs.declared.Verdict.TheVariants.{Accepted, Refused}
-use Rattle.table.specs.Answer.{Reply, answered, refused, paper, verdict, as_verdict, test, test_at, ◌then◌, outcome, decided}
+use Rattle.table.specs.Answer.{Reply, answered, refused, paper, reply_of, verdict, as_verdict, test, test_at, ◌then◌, outcome, decided}
 
 -- the number and the place that are told of a refusal
 number : Reply → ℕ
@@ -54,11 +55,21 @@ not_answered (BadSaved p) vs h = let z : ◌≡◌ {A = ℕ} 0 10 = ap number h 
 pub paper_one_to_one : (a b : Refusal) → paper a ≡ paper b → a ≡ b
 paper_one_to_one a b h = sym (back a) ∙ ap (λ (r : Reply). named (number r) (place r)) h ∙ back b
 
-pub verdict_one_to_one : (a b : Verdict) → verdict a ≡ verdict b → a ≡ b
-verdict_one_to_one Accepted Accepted h = refl
-verdict_one_to_one Accepted (Refused b) h = absurd (not_answered b [] h)
-verdict_one_to_one (Refused a) Accepted h = absurd (not_answered a [] (sym h))
-verdict_one_to_one (Refused a) (Refused b) h = ap Refused (paper_one_to_one a b h)
+-- the values that are told of an answer
+told : Reply → List ℕ
+told (answered vs) = vs
+told (refused n p) = []
+
+-- an answer is told one to one where its values are
+pub reply_one_to_one : {A : Type 0} (values : A → List ℕ) → ((x y : A) → values x ≡ values y → x ≡ y) → (a b : Result A Refusal) → reply_of values a ≡ reply_of values b → a ≡ b
+unfolding told
+reply_one_to_one values apart (Ok a) (Ok b) h = ap Ok (apart a b (ap told h))
+reply_one_to_one values apart (Ok a) (Err r) h = absurd (not_answered r (values a) h)
+reply_one_to_one values apart (Err r) (Ok b) h = absurd (not_answered r (values b) (sym h))
+reply_one_to_one values apart (Err r) (Err q) h = ap Err (paper_one_to_one r q h)
+
+pub verdict_one_to_one : (a b : Result (Unit {0}) Refusal) → verdict a ≡ verdict b → a ≡ b
+verdict_one_to_one a b h = reply_one_to_one _ (λ _ _ _. refl) a b h
 
 -- tests one after the other all pass exactly where each does
 pub then_none : (a b : Option Refusal) → (a then b) ≡ none → (a ≡ none) × (b ≡ none)
@@ -78,16 +89,21 @@ pub test_at_some : (place : ℕ) (f : ℕ → Refusal) {found : ℕ} → found �
 test_at_some zero f e h = absurd (omega arith)
 test_at_some (suc place) f e h = rw e
 
+-- a place that was found refuses
+pub test_found : (place : ℕ) (f : ℕ → Refusal) {k : ℕ} → Some k ≡ found place → test_at place f ≡ some (f k)
+test_found zero f e = cc
+test_found (suc n) f {k = k} e = let q : suc n ≡ k = (found_some (suc n) e).0 in ap (λ (m : ℕ). some (f m)) q
+
 -- a place that was found is 0, unless it is above
 pub nowhere : (place : ℕ) {found : ℕ} → found ≡ place → found ≤ 0 → place ≡ 0
 nowhere place e h = omega arith
 
 -- what a verdict says of the tests
-pub tests_pass : (o : Option Refusal) {v : Verdict} → v ≡ as_verdict o → v ≡ Accepted → o ≡ none
+pub tests_pass : (o : Option Refusal) {v : Result (Unit {0}) Refusal} → v ≡ as_verdict o → v ≡ Ok tt → o ≡ none
 tests_pass none e h = refl
 tests_pass (some r) e h = cc
 
-pub tests_refuse : (o : Option Refusal) (r : Refusal) {v : Verdict} → v ≡ as_verdict o → v ≡ Refused r → o ≡ some r
+pub tests_refuse : (o : Option Refusal) (r : Refusal) {v : Result (Unit {0}) Refusal} → v ≡ as_verdict o → v ≡ Err r → o ≡ some r
 tests_refuse none r e h = cc
 tests_refuse (some q) r e h = cc
 

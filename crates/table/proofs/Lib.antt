@@ -4,3 +4,4 @@ pub mod Laying
 pub mod Longer
 pub mod Answers
 pub mod Stamps
+pub mod Found

@@ -86,7 +86,6 @@ module _ (t : Table) (shape : Shape t) (k : ℕ) (low : 1 ≤ k) (high : k ≤ t
 
 -- every literal of a clause passes what every literal passes
 pub every_mem : (p : ℕ → Bool) (C : Clause) (x : ℕ) → every p C ≡ true → mem x C ≡ true → p x ≡ true
-unfolding every
 every_mem p [] x h m = differ m (mem_nil x)
 every_mem p (y ∷ C) x h m = let q = simp and_true at h in ⊎_elim (λ e. rw e q.0) (λ i. every_mem p C x q.1 i) (mem_cons x y C m)
 

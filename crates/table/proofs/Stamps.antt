@@ -22,7 +22,6 @@ use Rattle.table.proofs.Soundness.{every_mem, coded_bounds}
 
 -- one more literal
 every_next : (p : ℕ → Bool) (C : Clause) (i : ℕ) → i < length C → every p (take i C) ≡ true → p (get_or C i 0) ≡ true → every p (take (suc i) C) ≡ true
-unfolding every
 every_next p [] i l h e = absurd (omega arith)
 every_next p (y ∷ C) zero l h e = rw e
 every_next p (y ∷ C) (suc i) l h e = by_bool (p y) (λ a. rw a (every_next p C i (omega arith) (rw a at h) e)) (λ a. differ h (rw a))
@@ -58,7 +57,7 @@ pub record Marked (n : ℕ) (C : Clause) (k : ℕ) (seen : List ℕ) (i : ℕ) :
   pub stamps : Stamped seen k
 
 pub marked_start : (n : ℕ) (C : Clause) (k : ℕ) (seen : List ℕ) → 1 ≤ k → length seen ≡ 4002 → Stamped seen (k - 1) → Marked n C k seen 0
-unfolding every distinct
+unfolding distinct
 marked_start n C k seen l s h = record {
   within = omega arith;
   size = s;

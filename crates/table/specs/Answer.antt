@@ -1,11 +1,9 @@
 -- What a call answers, in document 01's numbers: values, or a refusal's number and place ('Refusal numbers'). Assumes nothing.
-use Rattle.std.specs.Prelude.{Bool, true, false, ◌&&◌, List, [], ℕ, zero, suc, eqb}
+use Rattle.std.specs.Prelude.{Bool, true, false, ◌&&◌, List, [], ℕ, zero, suc, eqb, Result, Ok, Err}
 use Rattle.std.proofs.Math.Option.{Option, none, some}
 use Rattle.rules.specs.Walk.{same}
 use Rattle.table.specs.declared.Refusal.{Refusal}
 use Rattle.table.specs.declared.Refusal.TheVariants.{BadText, OverLimit, NoRoom, BadTable, BadStack, NotBlocking, BadName, BadValues, NotModel, BadSaved}
-use Rattle.table.specs.declared.Verdict.{Verdict}
-use Rattle.table.specs.declared.Verdict.TheVariants.{Accepted, Refused}
 
 pub data Reply : Type 0 where
   answered : List ℕ → Reply
@@ -31,15 +29,19 @@ paper (BadValues variable) = refused 8 variable
 paper (NotModel clause) = refused 9 clause
 paper (BadSaved place) = refused 10 place
 
+-- the answer of a call: its values, as the function tells them, or the refusal
+abbrev pub reply_of : {A : Type 0} → (A → List ℕ) → Result A Refusal → Reply
+reply_of values (Ok a) = answered (values a)
+reply_of values (Err r) = paper r
+
 -- the answer of a call that has no value to give
-abbrev pub verdict : Verdict → Reply
-verdict Accepted = answered []
-verdict (Refused r) = paper r
+abbrev pub verdict : Result (Unit {0}) Refusal → Reply
+verdict r = reply_of (λ _. []) r
 
 -- the verdict of a list of tests
-abbrev pub as_verdict : Option Refusal → Verdict
-as_verdict none = Accepted
-as_verdict (some r) = Refused r
+abbrev pub as_verdict : Option Refusal → Result (Unit {0}) Refusal
+as_verdict none = Ok tt
+as_verdict (some r) = Err r
 
 -- the refusal that is given exactly where the test fails
 abbrev pub test : Bool → Refusal → Option Refusal

@@ -1,5 +1,6 @@
 pub mod Limits
 pub mod Table
+pub mod Lent
 pub mod Stack
 pub mod Values
 pub mod Answer

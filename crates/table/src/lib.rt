@@ -1,15 +1,19 @@
-// A table as it lies in lent memory: the refusals, the soundness test, and a clause's literals handed out.
+// A table as it lies in lent memory: the refusals, the soundness test, and a clause's literals handed out; and a lent stack's entries.
 #![tactic(auto)]
 
-ghost use Rattle.std.specs.Prelude.{◌≡◌, ◌-◌, ◌≤◌, ◌<◌, length};
+ghost use Rattle.std.specs.Prelude.{◌≡◌, true, false, MatchResult, ◌+◌, ◌-◌, ◌*◌, ◌≤◌, ◌<◌, length, get_or};
 ghost use Rattle.table.specs.Limits.{base};
 ghost use Rattle.rules.specs.Walk.{every_to};
-ghost use Rattle.table.specs.Table.{table, offset, row, sound, sound_row, rises, coded, handed_out, handed_from};
-ghost use Rattle.table.specs.Answer.{refused, paper};
+ghost use Rattle.table.specs.Table.{offset, row, sound, sound_row, rises, coded, handed_out, handed_from};
+ghost use Rattle.table.specs.Lent.{lent};
+ghost use Rattle.table.specs.Stack.{push};
 ghost use Rattle.table.specs.Inner.{Shape, Stretch, ends_sound, Stamped, Tested};
+ghost use Rattle.table.specs.declared.Refusal.TheVariants.{BadTable};
+
+use std::fmt;
 
 // Why a call is refused, with its place (document 01, 'Refusal numbers').
-#[derive(Drop)]
+#[derive(Clone, Copy, Debug, PartialEq, Eq)]
 pub enum Refusal {
     BadText(usize),
     OverLimit(usize),
@@ -23,94 +27,155 @@ pub enum Refusal {
     BadSaved(usize),
 }
 
-// The answer of a call that has no value to give.
-#[derive(Drop)]
-pub enum Verdict {
-    Accepted,
-    Refused(Refusal),
-}
-
 // A refusal's number and place, as document 01's table has them.
-#[derive(Drop)]
+#[derive(Clone, Copy, Debug, PartialEq, Eq)]
 pub struct Numbered {
     pub number: usize,
     pub place: usize,
 }
 
-pub fn told(r: Refusal) -> Numbered
-    ensures { refused result.number result.place ≡ paper r }
-{
-    match r {
-        Refusal::BadText(place) => Numbered { number: 1, place },
-        Refusal::OverLimit(place) => Numbered { number: 2, place },
-        Refusal::NoRoom => Numbered {
-            number: 3,
-            place: 0,
-        },
-        Refusal::BadTable => Numbered {
-            number: 4,
-            place: 0,
-        },
-        Refusal::BadStack(place) => Numbered { number: 5, place },
-        Refusal::NotBlocking(place) => Numbered { number: 6, place },
-        Refusal::BadName => Numbered {
-            number: 7,
-            place: 0,
-        },
-        Refusal::BadValues(place) => Numbered { number: 8, place },
-        Refusal::NotModel(place) => Numbered { number: 9, place },
-        Refusal::BadSaved(place) => Numbered { number: 10, place },
-    }
-}
+impl From<Refusal> for Numbered {
+    ghost use Rattle.table.specs.Answer.{refused, paper};
 
-// The stretch of clause k.
-pub fn row<'a>(n: usize, m: usize, lits: &'a [u16], offs: &[u32], k: usize) -> &'a [u16]
-    requires shape { Shape (table n m lits.now offs.now) }
-    requires le_k { (1 ≤ k) × (k ≤ m) }
-    ensures { Stretch result lits.entry (row (table n m lits.now offs.now) k) (offset (table n m lits.now offs.now) (k - 1)) }
-{
-    let a = offs[k - 1] as usize;
-    let e = offs[k] as usize;
-    &lits[a..e]
-}
+    ghost from_gives = { λ r told. refused told.number told.place ≡ paper r };
 
-// Whether the counts are within the limits, and the offsets there, from 0 to an end within the literals.
-fn ends_sound(n: usize, m: usize, lits: &[u16], offs: &[u32]) -> bool
-    ensures { result ≡ ends_sound base (table n m lits.now offs.now) }
-{
-    if 2000 < n {
-        return false;
-    }
-    if 4000 < m {
-        return false;
-    }
-    if offs.len() <= m {
-        return false;
-    }
-    if offs[0] != 0 {
-        return false;
-    }
-    let e = offs[m] as usize;
-    if 16000 < e {
-        return false;
-    }
-    e <= lits.len()
-}
-
-// Whether no offset is smaller than the one before.
-fn offsets_rise(n: usize, m: usize, lits: &[u16], offs: &[u32]) -> bool
-    requires { m < length offs.now }
-    ensures { result ≡ every_to (rises (table n m lits.now offs.now)) m }
-{
-    let mut k = 0;
-    while k < m {
-        if offs[k] <= offs[k + 1] {
-            k += 1;
-        } else {
-            return false;
+    fn from(r: Refusal) -> Numbered {
+        match r {
+            Refusal::BadText(place) => Numbered { number: 1, place },
+            Refusal::OverLimit(place) => Numbered { number: 2, place },
+            Refusal::NoRoom => Numbered {
+                number: 3,
+                place: 0,
+            },
+            Refusal::BadTable => Numbered {
+                number: 4,
+                place: 0,
+            },
+            Refusal::BadStack(place) => Numbered { number: 5, place },
+            Refusal::NotBlocking(place) => Numbered { number: 6, place },
+            Refusal::BadName => Numbered {
+                number: 7,
+                place: 0,
+            },
+            Refusal::BadValues(place) => Numbered { number: 8, place },
+            Refusal::NotModel(place) => Numbered { number: 9, place },
+            Refusal::BadSaved(place) => Numbered { number: 10, place },
         }
     }
-    true
+}
+
+impl fmt::Display for Refusal {
+    fn fmt<W: fmt::Write>(&self, f: &mut fmt::Formatter<W>) -> fmt::Result {
+        let Numbered { number, place } = Numbered::from(*self);
+        write!(f, "refused {number} at {place}")
+    }
+}
+
+// A table as it is lent: how many variables and clauses it has, and the two buffers that hold its clauses in compressed rows.
+#[derive(Clone, Copy, Debug)]
+pub struct Table<'a> {
+    pub variables: usize,
+    pub clauses: usize,
+    pub lits: &'a [u16],
+    pub offs: &'a [u32],
+}
+
+impl<'a> Table<'a> {
+    // The stretch of clause k.
+    pub fn row(&self, k: usize) -> &'a [u16]
+        requires shape { Shape (lent self.now) }
+        requires named { (1 ≤ k) × (k ≤ self.now.clauses) }
+        ensures { Stretch result self.now.lits (row (lent self.now) k) (offset (lent self.now) (k - 1)) }
+    {
+        let a = self.offs[k - 1] as usize;
+        let e = self.offs[k] as usize;
+        &self.lits[a..e]
+    }
+
+    // Whether the counts are within the limits, and the offsets there, from 0 to an end within the literals.
+    fn ends_sound(&self) -> bool
+        ensures { result ≡ ends_sound base (lent self.now) }
+    {
+        if self.variables > 2000 || self.clauses > 4000 || self.offs.len() <= self.clauses {
+            return false;
+        }
+        let e = self.offs[self.clauses] as usize;
+        self.offs[0] == 0 && e <= 16000 && e <= self.lits.len()
+    }
+
+    // Whether no offset is smaller than the one before.
+    fn offsets_rise(&self) -> bool
+        requires { self.now.clauses < length self.now.offs.now }
+        ensures { result ≡ every_to (rises (lent self.now)) self.now.clauses }
+    {
+        for k in 0..self.clauses {
+            if self.offs[k + 1] < self.offs[k] {
+                return false;
+            }
+        }
+        true
+    }
+
+    // Whether every clause is sound.
+    fn clauses_sound(&self) -> bool
+        requires shape { Shape (lent self.now) }
+        requires limits { (self.now.variables ≤ 2000) × (self.now.clauses ≤ 4000) }
+        ensures { result ≡ every_to (sound_row base (lent self.now)) self.now.clauses }
+    {
+        let mut seen = [0u16; 4002];
+        for k in 0..self.clauses {
+            let c = self.row(k + 1);
+            if !clause_sound(self.variables, c, (k + 1) as u16, &mut seen) {
+                return false;
+            }
+        }
+        true
+    }
+
+    // Whether the table is sound.
+    pub fn is_sound(&self) -> bool
+        ensures { result ≡ sound base (lent self.now) }
+    {
+        self.ends_sound() && self.offsets_rise() && self.clauses_sound()
+    }
+
+    // The table as a sound one, or why it is refused.
+    pub fn checked(&self) -> Result<SoundTable<'a>, Refusal>
+        ensures { MatchResult result (λ s. s.table ≡ self.now) (λ r. (r ≡ BadTable) × (sound base (lent self.now) ≡ false)) }
+    {
+        if self.is_sound() {
+            Ok(SoundTable { table: *self })
+        } else {
+            Err(Refusal::BadTable)
+        }
+    }
+
+    // A clause's literals, as the very stretch of the lent literal buffer: the empty part of it for an unsound table or a number outside 1 to m.
+    pub fn clause_literals(&self, k: usize) -> &'a [u16]
+        ensures { Stretch result self.now.lits (handed_out base (lent self.now) k) (handed_from base (lent self.now) k) }
+    {
+        if self.is_sound() && 1 <= k && k <= self.clauses {
+            return self.row(k);
+        }
+        &self.lits[0..0]
+    }
+}
+
+// A sound table.
+#[derive(Clone, Copy, Debug)]
+pub struct SoundTable<'a> {
+    pub table: Table<'a>,
+    pub ghost sound: { sound base (lent table) ≡ true },
+}
+
+impl<'a> SoundTable<'a> {
+    // The stretch of clause k.
+    pub fn row(&self, k: usize) -> &'a [u16]
+        requires { (1 ≤ k) × (k ≤ self.now.table.clauses) }
+        ensures { Stretch result self.now.table.lits (row (lent self.now.table) k) (offset (lent self.now.table) (k - 1)) }
+    {
+        self.table.row(k)
+    }
 }
 
 // Whether x is the code of a variable from 1 to n or of its negation.
@@ -118,10 +183,7 @@ fn is_coded(n: usize, x: u16) -> bool
     requires { n ≤ 2000 }
     ensures { result ≡ coded n x }
 {
-    if x < 2 {
-        return false;
-    }
-    x as usize <= 2 * n + 1
+    2 <= x && x as usize <= 2 * n + 1
 }
 
 // Whether the clause is sound. A code met in it is stamped k, above every stamp that was there: a literal whose stamp is k stands twice.
@@ -133,64 +195,55 @@ fn clause_sound(n: usize, c: &[u16], k: u16, seen: &mut [u16]) -> bool
     if 1000 < c.len() {
         return false;
     }
-    let mut i = 0;
-    while i < c.len() {
-        let x = c[i];
-        if is_coded(n, x) {
-            let at = x as usize;
-            if seen[at] == k {
-                return false;
-            }
-            seen[at] = k;
-            i += 1;
-        } else {
+    for x in c {
+        if !is_coded(n, *x) {
             return false;
         }
+        let at = *x as usize;
+        if seen[at] == k {
+            return false;
+        }
+        seen[at] = k;
     }
     true
 }
 
-// Whether every clause is sound.
-fn clauses_sound(n: usize, m: usize, lits: &[u16], offs: &[u32]) -> bool
-    requires shape { Shape (table n m lits.now offs.now) }
-    requires limits { (n ≤ 2000) × (m ≤ 4000) }
-    ensures { result ≡ every_to (sound_row base (table n m lits.now offs.now)) m }
-{
-    let mut seen = [0u16; 4002];
-    let mut k = 0;
-    while k < m {
-        let c = row(n, m, lits, offs, k + 1);
-        if clause_sound(n, c, (k + 1) as u16, &mut seen) {
-            k += 1;
-        } else {
-            return false;
-        }
-    }
-    true
+// An entry of a stack: the clause that was removed, and the literal that blocked it.
+#[derive(Clone, Copy, Debug, PartialEq, Eq)]
+pub struct Entry {
+    pub clause: u32,
+    pub literal: u32,
 }
 
-// Whether the lent table is sound.
-pub fn is_sound(n: usize, m: usize, lits: &[u16], offs: &[u32]) -> bool
-    ensures { result ≡ sound base (table n m lits.now offs.now) }
-{
-    if ends_sound(n, m, lits, offs) {
-        if offsets_rise(n, m, lits, offs) {
-            return clauses_sound(n, m, lits, offs);
-        }
+impl Entry {
+    // Puts the entry on a stack, behind its first `count`.
+    #[tactic(auto, unfolding(crate::specs::Stack::push))]
+    pub fn push_on(self, words: &mut [u32], count: usize)
+        requires { 2 * count + 1 < length words.old }
+        ensures { words.new ≡ push words.old count self.clause self.literal }
+    {
+        words[2 * count] = self.clause;
+        words[2 * count + 1] = self.literal;
     }
-    false
 }
 
-// A clause's literals, as the very stretch of the lent literal buffer: the empty part of it for an unsound table or a number outside 1 to m.
-pub fn clause_literals<'a>(n: usize, m: usize, lits: &'a [u16], offs: &[u32], k: usize) -> &'a [u16]
-    ensures { Stretch result lits.entry (handed_out base (table n m lits.now offs.now) k) (handed_from base (table n m lits.now offs.now) k) }
-{
-    if is_sound(n, m, lits, offs) {
-        if 1 <= k {
-            if k <= m {
-                return row(n, m, lits, offs, k);
-            }
+// A stack as it is lent: words, two for each entry, and the count of entries.
+#[derive(Clone, Copy, Debug)]
+pub struct Stack<'a> {
+    pub words: &'a [u32],
+    pub count: usize,
+}
+
+impl Stack<'_> {
+    // The entry with i entries before it.
+    pub fn entry(&self, i: usize) -> Entry
+        requires { 2 * i + 1 < length self.now.words.now }
+        ensures clause { result.clause ≡ get_or self.now.words.now (2 * i) 0 }
+        ensures literal { result.literal ≡ get_or self.now.words.now (2 * i + 1) 0 }
+    {
+        Entry {
+            clause: self.words[2 * i],
+            literal: self.words[2 * i + 1],
         }
     }
-    &lits[0..0]
 }

@@ -1,7 +1,6 @@
 -- The one claim of the table of examples, computed over the definitions. Assumes nothing.
 use mathlib.Core.Path.{◌≡◌, refl}
 use mathlib.Core.Bool.{true}
-use Rattle.rules.specs.Walk.{any}
 use Rattle.rules.specs.Clause.{mem}
 use Rattle.table.specs.Stack.{lay}
 use Rattle.words.specs.Tokens.{scan}
@@ -14,5 +13,5 @@ use Rattle.table.specs.Answer.{same_reply}
 use Rattle.text.specs.Examples.{same_outcome, small, passes, all_pass, examples}
 
 pub every_example_passes : all_pass examples ≡ true
-unfolding any mem lay scan digits natural number line_end prologue problem clause clauses table_of reading same_reply same_outcome small passes all_pass examples
+unfolding mem lay scan digits natural number line_end prologue problem clause clauses table_of reading same_reply same_outcome small passes all_pass examples
 every_example_passes = refl

@@ -15,19 +15,18 @@ use Rattle.rules.proofs.Members.{mem_nil, mem_cons, mem_here, mem_skip, mem_appe
 use Rattle.table.specs.Limits.{Limits}
 use Rattle.table.specs.Table.{distinct, coded, sound_clause}
 use Rattle.words.specs.declared.Number.{Number}
-use Rattle.words.specs.declared.Number.TheVariants.{Bad, Plain, Negative}
+use Rattle.words.specs.declared.Number.TheVariants.{Plain, Negative}
 use Rattle.words.specs.Tokens.{Token}
 use Rattle.words.specs.Numbers.{number}
 use Rattle.text.specs.declared.Step.{Step}
 use Rattle.text.specs.declared.Step.TheVariants.{Wrong, Ends, Repeated, Kept, Full}
-use Rattle.table.specs.Res.{ok}
 use Rattle.text.specs.Clauses.{code_of, step_of, clause}
 use Rattle.text.proofs.Codes.{clause_on, clause_none, Fresh, kept_fresh}
 use Rattle.text.proofs.Results.{never, ok_same}
+use Rattle.std.specs.Prelude.{Ok, Option, Some, None}
 
 -- one more literal at the end
 every_snoc : (p : ℕ → Bool) (C : Clause) (x : ℕ) → every p C ≡ true → p x ≡ true → every p (C ++ x ∷ []) ≡ true
-unfolding every
 every_snoc p [] x h e = rw e
 every_snoc p (y ∷ C) x h e = let q = simp and_true at h in rw (q.0, every_snoc p C x q.1 e)
 
@@ -53,14 +52,14 @@ pub record Clean (n room : ℕ) (C : Clause) : Type 0 where
   pub distinct : distinct C ≡ true
 
 clean_none : (n room : ℕ) → Clean n room []
-unfolding every distinct
+unfolding distinct
 clean_none n room = record { within = omega arith; coded = refl; distinct = refl }
 
 -- no code is above that of the last variable's negation
-code_most : (n : ℕ) (x : Number) → code_of n x ≤ 2 * n + 1
-code_most n Bad = omega arith
-code_most n (Plain v) = by_bool (leb v n) (λ t. rw t (omega (arith, leb-true v n t))) (λ f. rw f (omega arith))
-code_most n (Negative v) = by_bool (leb v n) (λ t. rw t (omega (arith, leb-true v n t))) (λ f. rw f (omega arith))
+code_most : (n : ℕ) (x : Option Number) → code_of n x ≤ 2 * n + 1
+code_most n None = omega arith
+code_most n (Some (Plain v)) = by_bool (leb v n) (λ t. rw t (omega (arith, leb-true v n t))) (λ f. rw f (omega arith))
+code_most n (Some (Negative v)) = by_bool (leb v n) (λ t. rw t (omega (arith, leb-true v n t))) (λ f. rw f (omega arith))
 
 clean_more : (n room : ℕ) (C : Clause) (x : ℕ) → Clean n room C → Fresh room C x → x ≤ 2 * n + 1 → Clean n room (C ++ x ∷ [])
 unfolding coded
@@ -73,7 +72,7 @@ clean_more n room C x c f l = record {
 -- a clause that is read
 module _ (n room end : ℕ) where
   abbrev Reads : Clause → List Token → Type 0
-  Reads kept ts = Clean n room kept → (C : Clause) (us : List Token) → clause n room end kept ts ≡ ok (C, us) → Clean n room C
+  Reads kept ts = Clean n room kept → (C : Clause) (us : List Token) → clause n room end kept ts ≡ Ok (C, us) → Clean n room C
 
   read_clean : (ts : List Token) (kept : Clause) → Reads kept ts
   read_clean [] kept c C us e = absurd (never _ _ _ e (clause_none n room end kept))
@@ -83,17 +82,18 @@ module _ (n room end : ℕ) where
       x = code_of n (number t.bytes)
 
       step : ((k : Clause) → Reads k ts) → (k : Step) → k ≡ step_of room kept x → Clean n room C
-      step rec Wrong h = absurd (never _ _ _ e (clause_on n room end kept t ts x refl Wrong h))
+      step rec Wrong h = absurd (never _ _ _ e (clause_on n room end kept t ts Wrong h))
       step rec Ends h =
-          let same : ◌≡◌ {A = Clause × List Token} (kept, ts) (C, us) = ok_same _ _ (sym (clause_on n room end kept t ts x refl Ends h) ∙ e) in
+          let same : ◌≡◌ {A = Clause × List Token} (kept, ts) (C, us) = ok_same _ _ (sym (clause_on n room end kept t ts Ends h) ∙ e) in
           rw (ap (λ (p : Clause × List Token). p.0) same) at c
-      step rec Repeated h = rec kept c C us (sym (clause_on n room end kept t ts x refl Repeated h) ∙ e)
-      step rec Kept h =
-          rec (kept ++ x ∷ []) (clean_more n room kept x c (kept_fresh room kept x (sym h)) (code_most n (number t.bytes))) C us
-          (sym (clause_on n room end kept t ts x refl Kept h) ∙ e)
-      step rec Full h = absurd (never _ _ _ e (clause_on n room end kept t ts x refl Full h))
+      step rec Repeated h = rec kept c C us (sym (clause_on n room end kept t ts Repeated h) ∙ e)
+      step rec (Kept y) h =
+          let f = kept_fresh room kept x y h in
+          rec (kept ++ y ∷ []) (clean_more n room kept y c f.0 (rw f.1 (code_most n (number t.bytes)))) C us
+          (sym (clause_on n room end kept t ts (Kept y) h) ∙ e)
+      step rec Full h = absurd (never _ _ _ e (clause_on n room end kept t ts Full h))
 
-  pub clause_clean : (ts us : List Token) (C : Clause) → clause n room end [] ts ≡ ok (C, us) → Clean n room C
+  pub clause_clean : (ts us : List Token) (C : Clause) → clause n room end [] ts ≡ Ok (C, us) → Clean n room C
   clause_clean ts us C e = read_clean ts [] (clean_none n room) C us e
 
 -- a clean clause is sound

@@ -16,10 +16,10 @@ use Rattle.table.specs.Table.{Table, table, offset, row, sound_clause, rises, so
 use Rattle.table.specs.Inner.{Shape}
 use Rattle.table.proofs.Longer.{longer, offset_longer, row_longer}
 use Rattle.words.specs.Tokens.{Token}
-use Rattle.table.specs.Res.{ok}
 use Rattle.text.specs.Clauses.{clause, clauses}
 use Rattle.text.proofs.Results.{never, ok_same, both}
 use Rattle.text.proofs.Clean.{Clean, clause_clean, clean_sound}
+use Rattle.std.specs.Prelude.{Ok}
 
 -- a table that is filled exactly
 pub record Laid (lim : Limits) (t : Table) : Type 0 where
@@ -96,7 +96,7 @@ module _ (lim : Limits) (t : Table) (C : Clause) where
 -- the clauses, read behind a table that is filled exactly
 module _ (lim : Limits) (n end : ℕ) where
   pub clauses_laid : (c k m : ℕ) (ts : List Token) (lits offs : List ℕ) (b : List ℕ × List ℕ) → k + c ≡ m → Laid lim (table n k lits offs)
-      → clauses lim n end lits offs c ts ≡ ok b → Laid lim (table n m b.0 b.1)
+      → clauses lim n end lits offs c ts ≡ Ok b → Laid lim (table n m b.0 b.1)
   unfolding clauses
   clauses_laid zero k m [] lits offs b q h e =
       let s : ◌≡◌ {A = List ℕ × List ℕ} (lits, offs) b = ok_same _ _ e in

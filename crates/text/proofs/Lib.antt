@@ -1,5 +1,4 @@
 pub mod Lines
-pub mod Tokens
 pub mod Results
 pub mod Codes
 pub mod Fills

@@ -1,24 +1,28 @@
 -- No second answer meets the contract of `read_text`; and a refusal leaves both buffers as they came. Assumes nothing.
-use mathlib.Core.Path.{◌≡◌, refl, sym, ◌∙◌, ap}
+use mathlib.Core.Path.{◌≡◌, refl, sym, ◌∙◌, ap, ap₂}
 use mathlib.Core.List.{List, [], ◌∷◌}
 use Prim.Native.Nat.{ℕ}
 use Rattle.table.specs.Limits.{base}
 use Rattle.table.specs.Answer.{refused}
 use Rattle.table.specs.Table.{Table}
 use Rattle.table.proofs.Answers.{paper_one_to_one, not_answered}
-use Rattle.text.specs.declared.Read.{Read}
-use Rattle.text.specs.declared.Read.TheVariants.{Table as TableRead, Refused}
-use Rattle.table.specs.Res.{Res, fault, ok, or_fault}
+use Rattle.table.specs.declared.Refusal.{Refusal}
+use Rattle.text.specs.declared.Counts.{Counts}
+use Rattle.table.specs.Res.{Res, or_fault}
 use Rattle.text.specs.Text.{TableOutcome, table_outcome, read_reply, table_of, reader_tests, left, reading}
+use Rattle.std.specs.Prelude.{Result, Ok, Err}
 
 -- the answers are told one to one
-pub read_one_to_one : (a b : Read) → read_reply a ≡ read_reply b → a ≡ b
-read_one_to_one (TableRead n m) (TableRead k l) h = cc
-read_one_to_one (TableRead n m) (Refused r) h = absurd (not_answered r (n ∷ m ∷ []) h)
-read_one_to_one (Refused r) (TableRead k l) h = absurd (not_answered r (k ∷ l ∷ []) (sym h))
-read_one_to_one (Refused r) (Refused q) h = ap Read.Refused (paper_one_to_one r q h)
+pub read_one_to_one : (a b : Result Counts Refusal) → read_reply a ≡ read_reply b → a ≡ b
+read_one_to_one (Ok a) (Ok b) h =
+    let v : a.variables ≡ b.variables = cc in
+    let c : a.clauses ≡ b.clauses = cc in
+    ap₂ (λ v c. Ok (record { variables = v; clauses = c })) v c
+read_one_to_one (Ok a) (Err r) h = absurd (not_answered r (a.variables ∷ a.clauses ∷ []) h)
+read_one_to_one (Err r) (Ok b) h = absurd (not_answered r (b.variables ∷ b.clauses ∷ []) (sym h))
+read_one_to_one (Err r) (Err q) h = ap (λ x. Err x) (paper_one_to_one r q h)
 
-pub read_text_once : (s lits offs : List ℕ) (a b : Read) (l o l' o' : List ℕ)
+pub read_text_once : (s lits offs : List ℕ) (a b : Result Counts Refusal) (l o l' o' : List ℕ)
     → table_outcome (read_reply a) l o ≡ reading base s lits offs → table_outcome (read_reply b) l' o' ≡ reading base s lits offs
     → (a ≡ b) × (l ≡ l') × (o ≡ o')
 read_text_once s lits offs a b l o l' o' h k =
@@ -26,8 +30,8 @@ read_text_once s lits offs a b l o l' o' h k =
     (read_one_to_one a b (ap (λ (t : TableOutcome). t.reply) e), ap (λ (t : TableOutcome). t.lits) e, ap (λ (t : TableOutcome). t.offs) e)
 
 left_keeps : (t : Res Table) (lits offs : List ℕ) (n p : ℕ) → (left t lits offs).reply ≡ refused n p → ((left t lits offs).lits ≡ lits) × ((left t lits offs).offs ≡ offs)
-left_keeps (fault r) lits offs n p h = (refl, refl)
-left_keeps (ok t) lits offs n p h = (cc, cc)
+left_keeps (Err r) lits offs n p h = (refl, refl)
+left_keeps (Ok t) lits offs n p h = (cc, cc)
 
 pub read_text_keeps : (s lits offs : List ℕ) (n p : ℕ) → (reading base s lits offs).reply ≡ refused n p
     → ((reading base s lits offs).lits ≡ lits) × ((reading base s lits offs).offs ≡ offs)

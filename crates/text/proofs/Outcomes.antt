@@ -13,18 +13,20 @@ use Rattle.table.specs.Table.{Table}
 use Rattle.table.specs.Stack.{lay}
 use Rattle.words.specs.Bytes.{begins}
 use Rattle.words.specs.Tokens.{tokens_from}
-use Rattle.table.specs.Res.{Res, fault, ok, ◌>>=◌}
+use Rattle.table.specs.Res.{Res, ◌>>=◌}
 use Rattle.text.specs.Lines.{prologue, line_end}
 use Rattle.text.specs.Problem.{from_p, problem}
 use Rattle.text.specs.Text.{TableOutcome, table_outcome, as_table, table_of, left, reading}
 use Rattle.text.specs.Inner.{clauses_from, lits_of, offs_of}
+use Rattle.std.specs.Prelude.{Err, Ok}
+use Rattle.words.specs.declared.Section.TheVariants.{ProblemLine}
 
 module _ (lim : Limits) (s : List ℕ) (start end : ℕ) where
-  pub problem_yes : begins 112 (drop start s) ≡ true → problem lim s start end ≡ from_p lim end (tokens_from true (take end s) start)
+  pub problem_yes : begins 112 (drop start s) ≡ true → problem lim s start end ≡ from_p lim end (tokens_from ProblemLine (take end s) start)
   unfolding problem
   problem_yes h = rw (h, problem)
 
-  pub problem_no : begins 112 (drop start s) ≡ false → problem lim s start end ≡ fault (BadText start)
+  pub problem_no : begins 112 (drop start s) ≡ false → problem lim s start end ≡ Err (BadText start)
   unfolding problem
   problem_no h = rw (h, problem)
 
@@ -34,11 +36,11 @@ unfolding table_of
 table_is s start end h p l q = rw (← p, ← l, q)
 
 -- a refusal leaves the buffers as they came
-pub refused : (t : Res Table) (r : Refusal) → t ≡ fault r → (lits offs : List ℕ) → table_outcome (paper r) lits offs ≡ left t lits offs
+pub refused : (t : Res Table) (r : Refusal) → t ≡ Err r → (lits offs : List ℕ) → table_outcome (paper r) lits offs ≡ left t lits offs
 refused t r e lits offs = ap (λ (u : Res Table). left u lits offs) (sym e)
 
 -- a success lays the literals and the offsets at their start
-pub filled : (n m : ℕ) (r : Res (List ℕ × List ℕ)) (b : List ℕ × List ℕ) → r ≡ ok b → (lits₀ offs₀ lits offs : List ℕ) → lits ≡ lay (lits_of r) lits₀ → offs ≡ lay (offs_of r) offs₀
+pub filled : (n m : ℕ) (r : Res (List ℕ × List ℕ)) (b : List ℕ × List ℕ) → r ≡ Ok b → (lits₀ offs₀ lits offs : List ℕ) → lits ≡ lay (lits_of r) lits₀ → offs ≡ lay (offs_of r) offs₀
     → table_outcome (answered (n ∷ m ∷ [])) lits offs ≡ left (as_table n m r) lits₀ offs₀
 filled n m r b e lits₀ offs₀ lits offs l o =
     rw (l, o) (ap (λ (q : Res (List ℕ × List ℕ)). table_outcome (answered (n ∷ m ∷ [])) (lay (lits_of q) lits₀) (lay (offs_of q) offs₀)) e ∙ ap (λ (q : Res (List ℕ × List ℕ)). left (as_table n m q) lits₀ offs₀) (sym e))

@@ -1,6 +1,7 @@
 -- Lines: where one ends, and the comment lines before the problem line (document 01, 'The text'). Assumes nothing.
 use Rattle.std.specs.Prelude.{Bool, true, false, ◌&&◌, ◌||◌, List, [], ◌∷◌, ℕ, ◌+◌, eqb}
 use Rattle.words.specs.Bytes.{class_of, begins}
+use Rattle.words.specs.declared.Section.TheVariants.{ProblemLine}
 use Rattle.words.specs.Tokens.{is_gap}
 
 -- 'A line ends at LF, CR LF or the end of the text.' (LF is 10, CR is 13.)
@@ -16,7 +17,7 @@ line_end k (b ∷ bs) = elim (ends (b ∷ bs)) [ true ↦ k | false ↦ line_end
 -- 'a blank (space or tab)' stands first
 abbrev pub blank : List ℕ → Bool
 blank [] = false
-blank (b ∷ bs) = is_gap true (class_of b)
+blank (b ∷ bs) = is_gap ProblemLine (class_of b)
 
 -- after a `c`: the line ends, or a blank stands there
 abbrev pub after_c : List ℕ → Bool

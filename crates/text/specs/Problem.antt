@@ -1,35 +1,37 @@
 -- The problem line (document 01, 'The text'): '`p cnf V C` from its first byte, tokens apart by blanks, which may also follow C'. Assumes nothing.
-use Rattle.std.specs.Prelude.{true, false, cond, List, [], ◌∷◌, ℕ, leb, take, drop}
+use Rattle.std.specs.Prelude.{true, false, cond, List, [], ◌∷◌, ℕ, leb, take, drop, Option, Some, None}
 use Rattle.table.specs.declared.Refusal.TheVariants.{BadText, OverLimit}
 use Rattle.table.specs.Limits.{Limits}
 use Rattle.words.specs.declared.Number.{Number}
-use Rattle.words.specs.declared.Number.TheVariants.{Bad, Plain, Negative}
+use Rattle.words.specs.declared.Number.TheVariants.{Plain, Negative}
 use Rattle.rules.specs.Walk.{same}
 use Rattle.words.specs.Bytes.{begins}
 use Rattle.words.specs.Tokens.{Token, tokens_from}
 use Rattle.words.specs.Numbers.{number}
-use Rattle.table.specs.Res.{Res, fault, ok, ◌>>=◌}
+use Rattle.table.specs.Res.{Res, ◌>>=◌}
+use Rattle.std.specs.Prelude.{Err, Ok}
+use Rattle.words.specs.declared.Section.TheVariants.{ProblemLine}
 
 -- A keyword, and then the other tokens. 'A missing token's point is after the bytes that may precede it': in a line the blanks, so that it is its end.
 abbrev pub keyword : List ℕ → ℕ → List Token → Res (List Token)
-keyword k end [] = fault (BadText end)
-keyword k end (t ∷ ts) = cond (same k t.bytes) (ok ts) (fault (BadText t.place))
+keyword k end [] = Err (BadText end)
+keyword k end (t ∷ ts) = cond (same k t.bytes) (Ok ts) (Err (BadText t.place))
 
 -- 'V and C take no minus'; 'V over 2,000; C over 4,000'; 'at one token 1 comes before 2'
-abbrev pub bounded : ℕ → ℕ → Number → Res ℕ
-bounded limit place Bad = fault (BadText place)
-bounded limit place (Negative v) = fault (BadText place)
-bounded limit place (Plain v) = cond (leb v limit) (ok v) (fault (OverLimit place))
+abbrev pub bounded : ℕ → ℕ → Option Number → Res ℕ
+bounded limit place None = Err (BadText place)
+bounded limit place (Some (Negative v)) = Err (BadText place)
+bounded limit place (Some (Plain v)) = cond (leb v limit) (Ok v) (Err (OverLimit place))
 
 -- V or C, and then the other tokens
 abbrev pub count : ℕ → ℕ → List Token → Res (ℕ × List Token)
-count limit end [] = fault (BadText end)
-count limit end (t ∷ ts) = bounded limit t.place (number t.bytes) >>= λ v. ok (v, ts)
+count limit end [] = Err (BadText end)
+count limit end (t ∷ ts) = bounded limit t.place (number t.bytes) >>= λ v. Ok (v, ts)
 
 -- after C no token stands in the line: the counts are n and m
 abbrev pub no_more : ℕ → ℕ → List Token → Res (ℕ × ℕ)
-no_more n m [] = ok (n, m)
-no_more n m (t ∷ ts) = fault (BadText t.place)
+no_more n m [] = Ok (n, m)
+no_more n m (t ∷ ts) = Err (BadText t.place)
 
 -- the tokens from C on, from V on, from `cnf` on, from `p` on, of a line that ends at `end`
 abbrev pub from_c : Limits → ℕ → ℕ → List Token → Res (ℕ × ℕ)
@@ -48,6 +50,6 @@ from_p lim end ts = keyword (112 ∷ []) end ts >>= from_cnf lim end
 -- fault at its first byte.' Where the text ends before the problem line, its end is that point.
 unfoldable pub problem : Limits → List ℕ → ℕ → ℕ → Res (ℕ × ℕ)
 problem lim s start end = elim (begins 112 (drop start s)) [
-  | false ↦ fault (BadText start)
-  | true ↦ from_p lim end (tokens_from true (take end s) start)
+  | false ↦ Err (BadText start)
+  | true ↦ from_p lim end (tokens_from ProblemLine (take end s) start)
 ]

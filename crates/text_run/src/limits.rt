@@ -1,97 +1,74 @@
 // Both sides of each limit that a long text is needed for, and short buffers.
 use crate::reads::{reads, reads_into};
-use say::lay;
+use say::lent::Buffers;
+use std::alloc::{AllocError, Global};
+use std::fmt::Write as _;
+use std::io;
 
-// Lays a number and a blank.
-fn number(t: &mut [u8], at: usize, v: u64) -> usize {
-    let mut digits = [0u8; 20];
-    let k = io::decimal(v, &mut digits);
-    let next = lay::bytes(t, at, &digits[..k]);
-    lay::bytes(t, next, b" ")
+// Puts a clause of the variables 1 to `many` behind a text.
+fn put_clause(text: &mut String, many: u32) -> Result<(), AllocError> {
+    for variable in 1..=many {
+        write!(text, "{variable} ")?;
+    }
+    text.push_str("0\n")
 }
 
-// Lays a clause of the variables 1 to `many`.
-fn clause(t: &mut [u8], at: usize, many: u64) -> usize {
-    let mut next = at;
-    let mut v: u64 = 0;
-    while v < many {
-        v += 1;
-        next = number(t, next, v);
+// A text with a problem line and so many clauses of the variables 1 to `many`.
+fn text_of(alloc: Global, problem: &str, clauses: u32, many: u32) -> Result<String, AllocError> {
+    let mut text = String::from_str(alloc, problem)?;
+    for _ in 0..clauses {
+        put_clause(&mut text, many)?;
     }
-    lay::bytes(t, next, b"0\n")
-}
-
-// Lays so many clauses of the variables 1 to `many`.
-fn clauses(t: &mut [u8], at: usize, clauses: usize, many: u64) -> usize {
-    let mut next = at;
-    let mut k = 0;
-    while k < clauses {
-        next = clause(t, next, many);
-        k += 1;
-    }
-    next
+    Ok(text)
 }
 
 // 4,000 clauses, all empty.
-fn limit_of_clauses() {
-    let mut t = [b' '; 65537];
-    let a = lay::bytes(&mut t, 0, b"p cnf 0 4000\n");
-    let e = clauses(&mut t, a, 4000, 0);
-    reads(b"4000 clauses", &t, e);
+fn limit_of_clauses(rt: &impl Print, alloc: Global) -> io::Result<()> {
+    let text = text_of(alloc, "p cnf 0 4000\n", 4000, 0)?;
+    reads(rt, alloc, "4000 clauses", text.as_bytes())
 }
 
 // 1,000 and 1,001 literals in a clause.
-fn limit_of_a_clause() {
-    let mut t = [b' '; 65537];
-    let a = lay::bytes(&mut t, 0, b"p cnf 2000 1\n");
-    let e = clause(&mut t, a, 1000);
-    reads(b"1000 literals in a clause", &t, e);
-    let f = clause(&mut t, a, 1001);
-    reads(b"1001 literals in a clause", &t, f);
+fn limit_of_a_clause(rt: &impl Print, alloc: Global) -> io::Result<()> {
+    let most = text_of(alloc, "p cnf 2000 1\n", 1, 1000)?;
+    reads(rt, alloc, "1000 literals in a clause", most.as_bytes())?;
+    let more = text_of(alloc, "p cnf 2000 1\n", 1, 1001)?;
+    reads(rt, alloc, "1001 literals in a clause", more.as_bytes())
 }
 
 // 16,000 and 16,001 literals in all.
-fn limit_of_all_clauses() {
-    let mut t = [b' '; 65537];
-    let a = lay::bytes(&mut t, 0, b"p cnf 1000 16\n");
-    let e = clauses(&mut t, a, 16, 1000);
-    reads(b"16000 literals in all", &t, e);
-    lay::bytes(&mut t, 0, b"p cnf 1000 17\n");
-    let f = clause(&mut t, e, 1);
-    reads(b"16001 literals in all", &t, f);
+fn limit_of_all_clauses(rt: &impl Print, alloc: Global) -> io::Result<()> {
+    let most = text_of(alloc, "p cnf 1000 16\n", 16, 1000)?;
+    reads(rt, alloc, "16000 literals in all", most.as_bytes())?;
+    let mut more = text_of(alloc, "p cnf 1000 17\n", 16, 1000)?;
+    put_clause(&mut more, 1)?;
+    reads(rt, alloc, "16001 literals in all", more.as_bytes())
 }
 
 // 65,536 and 65,537 bytes.
-fn limit_of_the_text() {
-    let mut t = [b' '; 65537];
-    lay::bytes(&mut t, 0, b"p cnf 0 0\n");
-    reads(b"65536 bytes", &t, 65536);
-    reads(b"65537 bytes", &t, 65537);
+fn limit_of_the_text(rt: &impl Print, alloc: Global) -> io::Result<()> {
+    let mut text = Vec::from_slice(alloc, b"p cnf 0 0\n")?;
+    text.resize(65536, b' ')?;
+    reads(rt, alloc, "65536 bytes", &text)?;
+    text.push(b' ')?;
+    reads(rt, alloc, "65537 bytes", &text)
 }
 
 // Short buffers: 3 comes first.
-fn short_buffers() {
-    let mut lits = [7u16; 16000];
-    let mut offs = [7u32; 4001];
-    reads_into(
-        b"just enough room",
-        b"p cnf 1 1\n1 0\n",
-        &mut lits,
-        &mut offs,
-    );
-    let mut few = [7u16; 15999];
-    let mut enough = [7u32; 4001];
-    reads_into(b"a literal too few", b"x", &mut few, &mut enough);
-    let mut many = [7u16; 16000];
-    let mut short = [7u32; 4000];
-    reads_into(b"an offset too few", b"x", &mut many, &mut short);
+fn short_buffers(rt: &impl Print, alloc: Global) -> io::Result<()> {
+    let mut exact = Buffers::new(alloc, 16000, 4001, 0)?;
+    reads_into(rt, "just enough room", b"p cnf 1 1\n1 0\n", &mut exact)?;
+    let mut few_literals = Buffers::new(alloc, 15999, 4001, 0)?;
+    reads_into(rt, "a literal too few", b"x", &mut few_literals)?;
+    let mut few_offsets = Buffers::new(alloc, 16000, 4000, 0)?;
+    reads_into(rt, "an offset too few", b"x", &mut few_offsets)
 }
 
 // Every limit, and short buffers.
-pub fn run() {
-    limit_of_clauses();
-    limit_of_a_clause();
-    limit_of_all_clauses();
-    limit_of_the_text();
-    short_buffers();
+pub fn run(rt: &impl Print, alloc: Global) -> io::Result<()> {
+    limit_of_clauses(rt, alloc)?;
+    limit_of_a_clause(rt, alloc)?;
+    limit_of_all_clauses(rt, alloc)?;
+    limit_of_the_text(rt, alloc)?;
+    short_buffers(rt, alloc)
 }

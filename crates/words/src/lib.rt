@@ -1,15 +1,16 @@
-// Bytes, tokens and numbers of a text: what a byte is, which token comes next, and what a token says as a number.
+// Bytes, tokens and numbers of a text: what a byte is, which token comes next, and what a token says as a number. Where a place is told, the text comes
+// whole with the place from which it is read, not as the rest of it: refusals name places of the whole text.
 #![tactic(auto)]
 
-ghost use Rattle.std.specs.Prelude.{◌≡◌, ◌≤◌, ◌<◌, min, length, drop, get_or};
+ghost use Rattle.std.specs.Prelude.{◌≡◌, ◌≤◌, ◌<◌, not, min, length, drop, get_or, position, option_map};
 ghost use Rattle.rules.specs.Walk.{same};
 ghost use Rattle.words.specs.Bytes.{class_of, begins};
 ghost use Rattle.words.specs.Tokens.{is_gap};
-ghost use Rattle.words.specs.Numbers.{digit_of, digits, natural, with_minus, number};
-ghost use Rattle.words.specs.Inner.{Begins, Skipped, Ended, Next, capped};
+ghost use Rattle.words.specs.Numbers.{digit_of, digits, natural, number};
+ghost use Rattle.words.specs.Inner.{Next, capped};
 
 // What a byte is to the reader of a text.
-#[derive(Drop)]
+#[derive(Clone, Copy, Debug, PartialEq, Eq)]
 enum Class {
     Digit(u8),
     Minus,
@@ -36,200 +37,119 @@ fn class_of(b: u8) -> Class
 pub fn begins_at(s: &[u8], i: usize, x: u8) -> bool
     ensures { result ≡ begins x (drop i s.now) }
 {
-    if i < s.len() { s[i] == x } else { false }
+    s.get(i) == Some(&x)
 }
 
 // Whether two slices hold the same bytes.
 pub fn same_bytes(a: &[u8], b: &[u8]) -> bool
     ensures { result ≡ same a.now b.now }
 {
-    let mut i: usize = 0;
-    while i < a.len() {
-        if b.len() <= i {
-            return false;
-        }
-        if a[i] != b[i] {
-            return false;
-        }
-        i += 1;
-    }
-    if i < b.len() { false } else { true }
+    a == b
 }
 
-// Whether a byte of the class stands between tokens: in the problem line only a blank does.
-fn is_gap(class: Class, line: bool) -> bool
-    ensures { result ≡ is_gap line class }
+// The part of a text that a token is read from: in the problem line only blanks stand between tokens, in the clauses the ends of lines too.
+#[derive(Clone, Copy, Debug, PartialEq, Eq)]
+pub enum Section {
+    ProblemLine,
+    Clauses,
+}
+
+// Whether the byte stands between tokens.
+fn is_gap(b: u8, section: Section) -> bool
+    ensures { result ≡ is_gap section (class_of b) }
 {
-    match class {
+    match class_of(b) {
         Class::Blank => true,
-        Class::Cr => !line,
-        Class::Lf => !line,
-        Class::Digit(_) => false,
-        Class::Minus => false,
-        Class::Other => false,
+        Class::Cr | Class::Lf => section == Section::Clauses,
+        Class::Digit(_) | Class::Minus | Class::Other => false,
     }
 }
 
 // Whether the byte at i stands between tokens.
-pub fn gap_at(s: &[u8], i: usize, line: bool) -> bool
+pub fn gap_at(s: &[u8], i: usize, section: Section) -> bool
     requires { i < length s.now }
-    ensures { result ≡ is_gap line (class_of (get_or s.now i 0)) }
+    ensures { result ≡ is_gap section (class_of (get_or s.now i 0)) }
 {
-    let b = s[i];
-    is_gap(class_of(b), line)
+    is_gap(s[i], section)
 }
 
-// The first byte from `from` on that is no gap, or the end.
-fn skip_gaps(s: &[u8], from: usize, line: bool) -> usize
+// How many bytes stand before the first token. (This chain and the next stand by themselves: within `next_token` they left its proof open.)
+fn gaps_before(rest: &[u8], section: Section) -> Option<usize>
+    ensures { result ≡ position (λ b. not (is_gap section (class_of b))) rest.now }
+{
+    rest.iter().position(|b| !is_gap(*b, section))
+}
+
+// How many bytes stand before the first gap.
+fn bytes_before(rest: &[u8], section: Section) -> Option<usize>
+    ensures { result ≡ position (λ b. is_gap section (class_of b)) rest.now }
+{
+    rest.iter().position(|b| is_gap(*b, section))
+}
+
+// Where a token stands: the offset of its first byte, and the offset after its last.
+#[derive(Clone, Copy, Debug, PartialEq, Eq)]
+pub struct Span {
+    pub place: usize,
+    pub end: usize,
+}
+
+// The next token from `from` on, of that section.
+pub fn next_token(s: &[u8], from: usize, section: Section) -> Option<Span>
     requires { from ≤ length s.now }
-    ensures { Skipped line s.now from result }
+    ensures { Next section s.now from result }
 {
-    let mut i = from;
-    while i < s.len() {
-        if gap_at(s, i, line) {
-            i += 1;
-        } else {
-            return i;
-        }
-    }
-    i
-}
-
-// The end of the token that begins at `place`.
-fn token_end(s: &[u8], place: usize, line: bool) -> usize
-    requires { Begins line s.now place }
-    ensures { Ended line s.now place result }
-{
-    let mut i = place + 1;
-    while i < s.len() {
-        if gap_at(s, i, line) {
-            return i;
-        }
-        i += 1;
-    }
-    i
-}
-
-// The next token, from its place up to its end, or that there is none.
-#[derive(Drop)]
-pub enum NextToken {
-    At { place: usize, end: usize },
-    None,
-}
-
-// The next token from `from` on, of the problem line or else of the clauses.
-pub fn next_token(s: &[u8], from: usize, line: bool) -> NextToken
-    requires { from ≤ length s.now }
-    ensures { Next line s.now from result }
-{
-    let place = skip_gaps(s, from, line);
-    if place == s.len() {
-        return NextToken::None;
-    }
-    let end = token_end(s, place, line);
-    NextToken::At { place, end }
+    let place = from + gaps_before(&s[from..], section)?;
+    let rest = &s[place..];
+    let end = place + bytes_before(rest, section).unwrap_or(rest.len());
+    Some(Span { place, end })
 }
 
 // What a token says as a number: a number above a million counts as a million, which is above every limit.
-#[derive(Drop)]
+#[derive(Clone, Copy, Debug, PartialEq, Eq)]
 pub enum Number {
-    Bad,
     Plain(usize),
     Negative(usize),
 }
 
-// A digit's value, and 10 for any other byte.
-fn digit_of(class: Class) -> u8
-    ensures { result ≡ digit_of class }
+// A digit's value.
+fn digit_of(b: u8) -> Option<u8>
+    ensures { result ≡ digit_of (class_of b) }
 {
-    match class {
-        Class::Digit(d) => d,
-        Class::Minus => 10,
-        Class::Blank => 10,
-        Class::Cr => 10,
-        Class::Lf => 10,
-        Class::Other => 10,
+    match class_of(b) {
+        Class::Digit(d) => Some(d),
+        _ => None,
     }
 }
 
-fn digit_at(s: &[u8], i: usize) -> u8
-    requires { i < length s.now }
-    ensures { result ≡ digit_of (class_of (get_or s.now i 0)) }
+// The number that the digits say, however many they are: std's `parse` refuses a long row of digits, which is a number here.
+fn value_of(token: &[u8]) -> Option<usize>
+    ensures { result ≡ option_map (min 1000000) (digits 0 token.now) }
 {
-    let b = s[i];
-    digit_of(class_of(b))
-}
-
-// The number, or a million where it is above that.
-fn cap(n: usize) -> usize
-    ensures { result ≡ min 1000000 n }
-{
-    if n < 1000000 { n } else { 1000000 }
-}
-
-// The number of a token whose digits before `from` say `v`.
-fn digits_from(token: &[u8], from: usize, v: usize) -> Number
-    requires { (from ≤ length token.now) × (v < 1000000) }
-    ensures { result ≡ capped (digits v (drop from token.now)) }
-{
-    let mut i = from;
-    let mut n = v;
-    while i < token.len() {
-        let d = digit_at(token, i);
-        if d < 10 {
-            n = cap(n * 10 + d as usize);
-            i += 1;
-        } else {
-            return Number::Bad;
-        }
+    let mut n: usize = 0;
+    for b in token {
+        let d = digit_of(*b)?;
+        n = (n * 10 + usize::from(d)).min(1000000);
     }
-    Number::Plain(n)
+    Some(n)
 }
 
-// The number of a token from `from` on: digits that don't begin with 0.
-fn natural_from(token: &[u8], from: usize) -> Number
-    requires { from ≤ length token.now }
-    ensures { result ≡ capped (natural (drop from token.now)) }
+// The number of a token without its minus: digits that don't begin with 0.
+fn natural(token: &[u8]) -> Option<usize>
+    ensures { result ≡ option_map (min 1000000) (natural token.now) }
 {
-    if from == token.len() {
-        return Number::Bad;
-    }
-    if digit_at(token, from) == 0 {
-        return Number::Bad;
-    }
-    digits_from(token, from, 0)
-}
-
-// The number after its minus.
-fn with_minus(x: Number) -> Number
-    ensures { result ≡ with_minus x }
-{
-    match x {
-        Number::Plain(v) => Number::Negative(v),
-        Number::Bad => Number::Bad,
-        Number::Negative(_) => Number::Bad,
+    match token {
+        [] | [b'0', ..] => None,
+        _ => value_of(token),
     }
 }
 
-pub fn number_of(token: &[u8]) -> Number
+pub fn number_of(token: &[u8]) -> Option<Number>
     ensures { result ≡ capped (number token.now) }
 {
-    if token.len() == 0 {
-        return Number::Bad;
-    }
-    let b = token[0];
-    match b {
-        b'-' => {
-            let x = natural_from(token, 1);
-            with_minus(x)
-        }
-        b'0' => {
-            if token.len() == 1 {
-                Number::Plain(0)
-            } else {
-                Number::Bad
-            }
-        }
-        _ => natural_from(token, 0),
+    match token {
+        [b'-', rest @ ..] => natural(rest).map(Number::Negative),
+        b"0" => Some(Number::Plain(0)),
+        _ => natural(token).map(Number::Plain),
     }
 }

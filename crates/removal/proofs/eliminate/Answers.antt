@@ -1,39 +1,47 @@
-use mathlib.Core.Path.{refl, sym, ◌∙◌}
-use native.Mathlib.Omega.{arith}
+use Rattle.std.proofs.Common.{◌≡◌, true, refl, arith, rules}
+use Rattle.std.proofs.lemmas.Result.{err_from_is_err_and}
+use Rattle.table.specs.Limits.{base}
+use Rattle.table.specs.Lent.{lent}
+use Rattle.table.specs.Table.{sound}
 use Rattle.table.proofs.Soundness.{sound_of}
 use Rattle.table.proofs.Stamps.{zeros}
 use Rattle.removal.proofs.Desks.{desk_start}
 use Rattle.removal.proofs.Outcomes.{elimination_unsound, elimination_narrow, elimination_made}
 use Rattle.removal.proofs.eliminate.Goals as goal
+use Rattle.removal.proofs.eliminate.Goals.{In_ok-book}
 
-pub overflow_mul-m : goal.overflow_mul-m
-overflow_mul-m c = omega (arith, (sound_of _ (sym c.is_sound.ensures ∙ c.if-is_sound.true)).clauses)
+known : (c : In_ok-book) → sound base (lent c.args.t.now) ≡ true
+known c = rw c.in_ok-book.ensures at c.in_ok-book.book.sound
 
-pub returns-then-stack-m : goal.returns-then-stack-m
-returns-then-stack-m c = elimination_narrow _ _ c.is_sound.ensures c.if-is_sound.true c.if-stack-m.true
+pub returns-in_err-book : goal.returns-in_err-book
+returns-in_err-book c =
+    let p = err_from_is_err_and c.from_residual.result c.from_residual.ensures.1 in
+    rw (p.1, p.2, c.in_err-book.ensures.0) (elimination_unsound _ _ c.in_err-book.ensures.1)
+
+pub overflow_mul-t : goal.overflow_mul-t
+overflow_mul-t c = omega (arith, (sound_of _ (known (goal.at.overflow_mul-t c).In_ok-book)).clauses)
+
+pub returns-then-stack-t : goal.returns-then-stack-t
+returns-then-stack-t c = elimination_narrow _ _ (known (goal.at.returns-then-stack-t c).In_ok-book) c.if-stack-t.true
 
 pub mark_all-requires : goal.mark_all-requires
-mark_all-requires c = omega (arith, (sound_of _ (sym c.is_sound.ensures ∙ c.if-is_sound.true)).clauses)
+mark_all-requires c = omega (arith, (sound_of _ (known (goal.at.mark_all-requires c).In_ok-book)).clauses)
 
-pub index_rows-requires : goal.index_rows-requires
-index_rows-requires c = record {
-  table_sound = sym c.is_sound.ensures ∙ c.if-is_sound.true;
-  unlinked = (refl, refl, zeros 4002);
-}
+pub build-index-requires-clause-unlinked : goal.build-index-requires-clause-unlinked
+build-index-requires-clause-unlinked c = (refl, refl, zeros 4002)
 
-pub mark_plain-requires : goal.mark_plain-requires
-mark_plain-requires c =
-    let h = sym c.is_sound.ensures ∙ c.if-is_sound.true in
-    record {
-      table_sound = h;
-      m_in_bounds = omega (arith, (sound_of _ h).clauses);
-    }
+pub build-index-requires-clause-room : goal.build-index-requires-clause-room
+build-index-requires-clause-room c = omega (arith, (sound_of _ c.in_ok-book.book.sound).clauses)
 
-pub sweep_all-count-requires : goal.sweep_all-count-requires
-sweep_all-count-requires c = desk_start _ c.is_sound.ensures c.if-is_sound.true c.if-stack-m.false c.index_rows.ensures c.mark_plain.ensures c.mark_all.auto.live c.mark_all.ensures
-
-pub returns-then-is_sound : goal.returns-then-is_sound
-returns-then-is_sound c = elimination_made _ _ c.is_sound.ensures c.if-is_sound.true c.if-stack-m.false c.mark_all.ensures c.sweep_all-count.ensures
+pub invariant_of-desk : goal.invariant_of-desk
+invariant_of-desk c =
+    let o = c in
+    rw (c.build-index.ensures, c.in_ok-book.ensures)
+    (record { room = desk_start _ (known (goal.at.invariant_of-desk o).In_ok-book) c.if-stack-t.false c.mark_all.auto.live c.mark_all.ensures })
 
 pub returns : goal.returns
-returns c = elimination_unsound _ _ c.is_sound.ensures c.if-is_sound.false
+returns c =
+    let o = c in
+    let made = elimination_made _ _ (known (goal.at.returns o).In_ok-book) c.if-stack-t.false c.mark_all.ensures
+    (rw (c.build-index.ensures, c.in_ok-book.ensures) at c.sweep_all.ensures.made) in
+    search (rules, made)

@@ -1,27 +1,16 @@
-use mathlib.Core.Path.{refl}
-use native.Mathlib.Omega.{arith}
-use Rattle.removal.proofs.Questions.{not_blocks}
+use Rattle.std.proofs.Common.{refl, ◌∙◌, ap, arith}
+use Rattle.std.specs.Option.{is_some}
+use Rattle.table.specs.Lent.{lent}
 use Rattle.table.proofs.Soundness.{sound_of}
 use Rattle.table.proofs.Stamps.{zeros}
+use Rattle.removal.proofs.Questions.{not_blocks}
 use Rattle.removal.proofs.prevented.Goals as goal
 
-pub index_rows-requires : goal.index_rows-requires
-index_rows-requires c = record {
-  table_sound = c.requires.table_sound;
-  unlinked = (refl, refl, zeros 4002);
-}
+pub build-index-requires-clause-unlinked : goal.build-index-requires-clause-unlinked
+build-index-requires-clause-unlinked c = (refl, refl, zeros 4002)
 
-pub mark_plain-requires : goal.mark_plain-requires
-mark_plain-requires c = record {
-  table_sound = c.requires.table_sound;
-  m_in_bounds = omega (arith, (sound_of _ c.requires.table_sound).clauses);
-}
-
-pub test_literal-requires : goal.test_literal-requires
-test_literal-requires c = record {
-  ready = record { table_sound = c.requires.table_sound; index = c.index_rows.ensures; plains = c.mark_plain.ensures; marks_many = c.requires.m_in_bounds.0; marks_within = c.requires.m_in_bounds.1 };
-  le_k = c.requires.le_k;
-}
+pub build-index-requires-clause-room : goal.build-index-requires-clause-room
+build-index-requires-clause-room c = omega (arith, (sound_of _ c.args.t.now.sound).clauses)
 
 pub returns : goal.returns
-returns c = not_blocks _ _ _ _ _ c.requires.le_k.2 c.test_literal.ensures
+returns c = c.is_some.ensures ∙ ap is_some (rw c.build-index.ensures at c.test_literal.ensures) ∙ not_blocks (lent c.args.t.now.table) _ _ _ c.requires.held

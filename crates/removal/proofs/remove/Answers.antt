@@ -1,10 +1,16 @@
-use native.Mathlib.Omega.{arith}
-use Rattle.stack.proofs.Refusals.{opened_refused, opened}
+use Rattle.std.proofs.Common.{arith}
+use Rattle.std.proofs.lemmas.Result.{err_from_is_err_and}
+use Rattle.stack.proofs.Refusals.{opened}
 use Rattle.removal.proofs.Outcomes.{removal_refused}
 use Rattle.removal.proofs.remove.Goals as goal
 
-pub remove_named-requires : goal.remove_named-requires
-remove_named-requires c = opened c.open_stack-opened.ensures c.in-Accepted.is c.open_stack-opened.auto.live (omega arith)
+pub returns-in_err-book : goal.returns-in_err-book
+returns-in_err-book c =
+    let p = err_from_is_err_and c.from_residual.result c.from_residual.ensures.1 in
+    rw (p.1, p.2) (removal_refused _ _ _ _ c.in_err-book.ensures _ _)
 
-pub returns-in-Refused : goal.returns-in-Refused
-returns-in-Refused c = removal_refused _ _ _ _ (opened_refused c.open_stack-opened.ensures _ c.in-Refused.is) _ _
+pub remove_named-requires : goal.remove_named-requires
+remove_named-requires c = let h = c.in_ok-book.ensures in rw h.table (opened h c.open_stack.auto.live (omega arith))
+
+pub returns : goal.returns
+returns c = let h = c.in_ok-book.ensures in rw h.table at c.remove_named.ensures

@@ -1,11 +1,6 @@
-use mathlib.Core.Path.{◌≡◌}
-use Prim.Native.Nat.{◌≤◌, ◌-◌}
-use lib.ListN.{length, drop}
+use Rattle.std.proofs.Common.{◌≡◌, take}
 use Rattle.rules.specs.Clause.{mem}
 use Rattle.rules.proofs.contains.Given as goal
 
-abbrev pub invariant-loop-from : goal.invariant-loop-from
-invariant-loop-from l = (l.from ≤ length l.c) × (mem l.l (drop l.from l.c) ≡ mem l.l l.c)
-
-abbrev pub decreases-loop-from : goal.decreases-loop-from
-decreases-loop-from l = length l.c - l.from
+abbrev pub invariant-loop-x : goal.invariant-loop-x
+invariant-loop-x l = l.found ≡ mem l.l (take l.x-index l.c)

@@ -1,21 +1,21 @@
-use mathlib.Core.Path.{refl, sym, ap, ◌∙◌}
+use mathlib.Core.Path.{sym, ap, ◌∙◌}
+use Prim.Native.Nat.{◌+◌}
+use native.Mathlib.Omega.{arith}
+use lib.ListN.{drop_of_length-le}
 use Rattle.table.specs.Table.{distinct}
-use Rattle.saved_read.proofs.Numbers.{numbers_next, numbers_end, once_again, once_past}
+use Rattle.table.proofs.Laying.{tail_is}
+use Rattle.saved_read.proofs.Numbers.{once_again, once_past}
 use Rattle.saved_read.proofs.all_once.Goals as goal
 
-pub loop-t-init : goal.loop-t-init
-loop-t-init c =
-    refl
+pub returns-then-contains : goal.returns-then-contains
+returns-then-contains c =
+    sym (c.loop-i.invariant ∙ once_again c.args.literals.now c.loop-i.i _ (tail_is c.args.literals.now (c.loop-i.i + 1)) (omega arith) (sym c.contains.ensures ∙ c.if-contains.true))
 
-pub returns-then-occurs : goal.returns-then-occurs
-returns-then-occurs c =
-    sym (c.loop-t.invariant ∙ ap (distinct) (numbers_next c.loop-t.t.now _ c.loop-t-test.true c.number_at-x.ensures) ∙ once_again _ _ (sym c.occurs.ensures ∙ c.if-occurs.true))
-
-pub loop-t-preserved : goal.loop-t-preserved
-loop-t-preserved c =
-    c.loop-t.invariant ∙ ap (distinct) (numbers_next c.loop-t.t.now _ c.loop-t-test.true c.number_at-x.ensures) ∙ once_past _ _ (sym c.occurs.ensures ∙ c.if-occurs.false)
+pub loop-i-preserved : goal.loop-i-preserved
+loop-i-preserved c =
+    c.loop-i.invariant ∙ once_past c.args.literals.now c.loop-i.i _ (tail_is c.args.literals.now (c.loop-i.i + 1)) (omega arith) (sym c.contains.ensures ∙ c.if-contains.false)
 
 pub returns : goal.returns
 unfolding distinct
 returns c =
-    sym (c.loop-t.invariant ∙ ap (distinct) (numbers_end c.loop-t.t.now c.loop-t-test.false))
+    sym (c.loop-i.invariant ∙ ap distinct (drop_of_length-le c.args.literals.now {i = c.loop-i.i} c.loop-i-test.false))

@@ -1,12 +1,8 @@
 use mathlib.Core.Path.{◌≡◌}
-use Prim.Native.Nat.{◌-◌, ◌/◌, ◌≤◌}
 use lib.ListN.{length, take}
 use Rattle.table.specs.Stack.{lay}
 use Rattle.saved.specs.Bytes.{numbers_of}
 use Rattle.saved_read.proofs.copy_numbers.Given as goal
 
 abbrev pub invariant-loop-i : goal.invariant-loop-i
-invariant-loop-i l = (l.i ≤ length l.v / 2) × (length l.out ≡ length l.initial.out) × (l.out ≡ lay (take l.i (numbers_of 2 l.v)) l.initial.out)
-
-abbrev pub decreases-loop-i : goal.decreases-loop-i
-decreases-loop-i l = length l.v / 2 - l.i
+invariant-loop-i l = (length l.out ≡ length l.initial.out) × (l.out ≡ lay (take l.i (numbers_of 2 l.v)) l.initial.out)

@@ -1,16 +1,12 @@
 use mathlib.Core.Path.{refl}
-use borrow.Author.Tests.{eq-eqb, ne_eqb}
 use native.Mathlib.Numerals.{add-one}
-use Rattle.table.specs.Stack.{push}
 use Rattle.saved_read.specs.Inner.{count_on, pushed_on}
 use Rattle.saved_read.proofs.push_entry.Goals as goal
 
-pub returns-then-heads-eq1 : goal.returns-then-heads-eq1
+pub returns-in-None : goal.returns-in-None
 unfolding count_on pushed_on
-returns-then-heads-eq1 c =
-    rw (eq-eqb c.args.heads 1 c.if-heads-eq1.true) (refl, refl)
+returns-in-None c = rw c.in-None.is (refl, refl)
 
-pub returns : goal.returns
-unfolding count_on pushed_on push
-returns c =
-    rw (ne_eqb c.args.heads 1 c.if-heads-eq1.false) (add-one c.args.c, refl)
+pub returns-in-Some : goal.returns-in-Some
+unfolding count_on pushed_on
+returns-in-Some c = rw (c.push_on.ensures, c.in-Some.is, c.from.ensures, c.from-in-Some.ensures) (add-one c.args.count, refl)

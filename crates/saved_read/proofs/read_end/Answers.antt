@@ -1,49 +1,36 @@
-use mathlib.Core.Path.{◌≡◌, sym, ap, ◌∙◌}
-use Prim.Native.Nat.{ℕ, ◌+◌}
+use mathlib.Core.Path.{◌≡◌}
 use native.Mathlib.Omega.{arith}
-use lib.ListN.{drop, length-drop}
-use Rattle.table.specs.declared.Verdict.{Verdict}
-use Rattle.table.specs.declared.Refusal.TheVariants.{BadSaved}
-use Rattle.saved.specs.Field.{length_of}
-use Rattle.saved_read.specs.Inner.{head_with}
-use Rattle.saved_read.proofs.Found.{found, lost, end_lost, end_long, end_total, end_more, end_right}
+use lib.ListN.{length}
+use borrow.Author.Rules.{rules}
+use Rattle.std.proofs.lemmas.Grind.{common_steps}
+use Rattle.saved_read.specs.Inner.{head_as}
+use Rattle.saved_read.proofs.Found.{value_found, end_lost, end_long, end_total, end_more, end_right}
 use Rattle.saved_read.proofs.read_end.Goals as goal
+use Rattle.saved_read.proofs.read_end.Goals.{then-not-is_empty-via-then-not-is_empty, then-not-is_empty-via-else-not-is_empty+then-literals-head}
 
-pub returns-then-start-end : goal.returns-then-start-end
-returns-then-start-end c =
-    let b = c.args.bytes.now in
-    let h = head_with c.args.n c.args.m c.args.all c.args.r in
-    let z = found b c.args.at 127 _ _ (sym c.in-At.is ∙ c.value_at-found.ensures) in
-    let l = length-drop c.args.at b in
-    sym (end_long h c.args.total (drop c.args.at b) c.args.at z.whole z.tagged (omega arith))
+pub returns-in_err-value : goal.returns-in_err-value
+returns-in_err-value c =
+    let z = end_lost c.args.bytes.now c.args.at (head_as c.args.head.now) c.args.literals _ c.in_err-value.ensures in rw z (search rules)
 
-pub returns-then-total-all : goal.returns-then-total-all
-returns-then-total-all c =
-    let b = c.args.bytes.now in
-    let h = head_with c.args.n c.args.m c.args.all c.args.r in
-    let z = found b c.args.at 127 _ _ (sym c.in-At.is ∙ c.value_at-found.ensures) in
-    let l = length-drop c.args.at b in
-    sym (end_total h c.args.total (drop c.args.at b) c.args.at z.whole z.tagged (omega arith) c.if-total-all.true)
+pub returns-then-not-is_empty : goal.returns-then-not-is_empty
+returns-then-not-is_empty c =
+    let f = value_found c.args.bytes.now c.args.at 127 _ c.in_ok-value.ensures in
+    elim c.then-not-is_empty.branch [
+      | then-not-is_empty-via-then-not-is_empty w ↦
+          rw (end_long c.args.bytes.now c.args.at (head_as c.args.head.now) c.args.literals _ f (grind (arith, common_steps)))
+      | then-not-is_empty-via-else-not-is_empty+then-literals-head w ↦
+          let z : length c.in_ok-value.value.now ≡ 0 = grind (arith, common_steps) in
+          rw (end_total c.args.bytes.now c.args.at (head_as c.args.head.now) c.args.literals _ f z w.if-literals-head.true)
+    ]
 
-pub returns-then-end-bytes : goal.returns-then-end-bytes
-returns-then-end-bytes c =
-    let b = c.args.bytes.now in
-    let h = head_with c.args.n c.args.m c.args.all c.args.r in
-    let z = found b c.args.at 127 _ _ (sym c.in-At.is ∙ c.value_at-found.ensures) in
-    let l = length-drop c.args.at b in
-    let q : c.args.at + 3 + length_of (drop c.args.at b) ≡ c.args.at + 3 = omega arith in
-    ap (λ (n : ℕ). Verdict.Refused (BadSaved n)) (z.end ∙ q) ∙ sym (end_more h c.args.total (drop c.args.at b) c.args.at z.whole z.tagged (omega arith) c.if-total-all.false (λ i. omega arith))
+pub returns-then-at-bytes : goal.returns-then-at-bytes
+returns-then-at-bytes c =
+    let f = value_found c.args.bytes.now c.args.at 127 _ c.in_ok-value.ensures in
+    let z : length c.in_ok-value.value.now ≡ 0 = grind (arith, common_steps) in
+    rw (end_more c.args.bytes.now c.args.at (head_as c.args.head.now) c.args.literals _ f z c.if-literals-head.false c.if-at-bytes.true)
 
-pub returns-in-Bad : goal.returns-in-Bad
-returns-in-Bad c =
-    let b = c.args.bytes.now in
-    let h = head_with c.args.n c.args.m c.args.all c.args.r in
-    sym (end_lost h c.args.total (drop c.args.at b) c.args.at (lost b c.args.at 127 (sym c.in-Bad.is ∙ c.value_at-found.ensures)))
-
-pub returns-else-end-bytes : goal.returns-else-end-bytes
-returns-else-end-bytes c =
-    let b = c.args.bytes.now in
-    let h = head_with c.args.n c.args.m c.args.all c.args.r in
-    let z = found b c.args.at 127 _ _ (sym c.in-At.is ∙ c.value_at-found.ensures) in
-    let l = length-drop c.args.at b in
-    sym (end_right h c.args.total (drop c.args.at b) c.args.at z.whole z.tagged (omega arith) c.if-total-all.false (omega arith))
+pub returns : goal.returns
+returns c =
+    let f = value_found c.args.bytes.now c.args.at 127 _ c.in_ok-value.ensures in
+    let z : length c.in_ok-value.value.now ≡ 0 = grind (arith, common_steps) in
+    rw (end_right c.args.bytes.now c.args.at (head_as c.args.head.now) c.args.literals _ f z c.if-literals-head.false c.if-at-bytes.false)

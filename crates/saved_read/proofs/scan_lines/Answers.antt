@@ -1,93 +1,103 @@
-use mathlib.Core.Path.{refl, sym, ◌∙◌}
+use mathlib.Core.Path.{◌≡◌, refl, ap, ◌∙◌}
+use Prim.Native.Nat.{ℕ, suc, ◌+◌, ◌-◌, ◌*◌}
 use native.Mathlib.Omega.{arith}
-use lib.ListN.{length-set}
-use Rattle.table.proofs.Answers.{tests_pass, tests_refuse}
-use Rattle.saved_read.proofs.State.{state_start, go_refused, go_bounds, go_next, go_end_refused, go_end}
+use lib.ListN.{length, take, drop, length-set}
 use borrow.Author.Rules.{rules}
+use Rattle.std.specs.Prelude.{Ok, Err}
+use Rattle.table.proofs.Answers.{tests_pass, tests_refuse}
+use Rattle.saved_read.specs.Inner.{head_as, kind_at, heads_of, line_on}
+use Rattle.saved_read.specs.declared.Kind.{Kind}
+use Rattle.saved_read.proofs.Found.{Found, value_found}
+use Rattle.saved_read.proofs.State.{State, one_left, none_left, state_start, state_lost, state_refused, holds, most, state_next, end_refused, end_read}
 use Rattle.saved_read.proofs.scan_lines.Goals as goal
+use Rattle.saved_read.proofs.scan_lines.Goals.{After-at-kind, In_ok-value, In_ok-front}
 
-pub loop-c-init : goal.loop-c-init
-loop-c-init c =
-    (state_start c.args.bytes.now c.args.n c.args.m c.args.all c.args.r _ _ _ c.requires, refl, refl, refl, omega arith)
+-- a line is read, and the others are still to come
+state : (c : After-at-kind) → State c.args.bytes.now (head_as c.args.head.now) (suc (c.args.head.now.clauses - c.loop-read.read - 1))
+    c.loop-read.last c.loop-read.total c.loop-read.at c.loop-read.parts c.loop-read.words c.loop-read.count
+state c = one_left (omega arith) c.loop-read.invariant.0
 
-pub read_line-line-requires : goal.read_line-line-requires
-read_line-line-requires c =
-    let g = c.loop-c.invariant.0 in
-    let h = c.heads_at-heads.ensures in
-    let q = c.requires in
-    record {
-      at_in_bounds = g.inside;
-      limits = (h.1, h.2, q.variables, g.starts_room, g.full);
-    }
+field_found : (c : In_ok-value) → Found c.args.bytes.now c.loop-read.at
+    (heads_of (kind_at (c.args.head.now.clauses - c.loop-read.read - 1) c.args.head.now.removals) + 1) c.in_ok-value.value.now
+field_found c = value_found c.args.bytes.now c.loop-read.at _ _ (rw (c.tag.ensures, c.at-kind.ensures) at c.in_ok-value.ensures)
 
-pub returns-in-Refused : goal.returns-in-Refused
-returns-in-Refused c =
-    let g = c.loop-c.invariant.0 in
-    let h = c.heads_at-heads.ensures in
-    go_refused c.args.bytes.now c.args.n c.args.m c.args.all c.args.r c.loop-c.c c.loop-c.prev c.loop-c.total c.loop-c.at c.loop-c.starts c.loop-c.ends c.loop-c.words c.loop-c.count _ _ c.loop-c-test.true g h.0 (sym c.in-Refused.is ∙ c.read_line-line.ensures)
+module _ (c : In_ok-front) where
+  abbrev kind : Kind
+  kind = kind_at (c.args.head.now.clauses - c.loop-read.read - 1) c.args.head.now.removals
 
-pub push_entry-count-requires : goal.push_entry-count-requires
-push_entry-count-requires c =
-    let g = c.loop-c.invariant.0 in
-    let h = c.heads_at-heads.ensures in
-    let q = c.requires.clauses in
-    let u = g.few in
-    let w = g.words_room in
-    (omega arith, omega arith)
+  line_read : Ok c.in_ok-front.front
+      ≡ line_on kind (head_as c.args.head.now) c.loop-read.total c.loop-read.last c.loop-read.parts c.in_ok-value.value.now c.loop-read.at
+  line_read = rw c.at-kind.ensures at c.in_ok-front.ensures
 
-pub bounds-starts-prev : goal.bounds-starts-prev
-bounds-starts-prev c =
-    let g = c.loop-c.invariant.0 in
-    let h = c.heads_at-heads.ensures in
-    let e = sym c.in-Good.is ∙ c.read_line-line.ensures in
-    let z = go_bounds c.args.bytes.now c.args.n c.args.m c.args.all c.args.r c.loop-c.c c.loop-c.prev c.loop-c.total c.loop-c.at c.loop-c.starts c.loop-c.ends c.loop-c.words c.loop-c.count _ _ _ _ _ _ c.loop-c-test.true g h.0 e in
-    let sr = g.starts_room in
-    let er = g.ends_room in
+pub loop-read-init : goal.loop-read-init
+loop-read-init c =
+    let e : c.args.head.now.clauses - 0 ≡ c.args.head.now.clauses = omega arith in
+    (rw e (state_start c.args.bytes.now (head_as c.args.head.now) _ _ c.args.head.now.limits.1 c.requires), refl, refl)
+
+pub returns-in_err-value : goal.returns-in_err-value
+returns-in_err-value c =
+    let r : c.from_residual.result ≡ Err c.in_err-value.field-0.0 = search rules in
+    let l = rw (c.tag.ensures, c.at-kind.ensures) at c.in_err-value.ensures in
+    rw r (state_lost c.args.bytes.now (head_as c.args.head.now) _ _ _ _ _ _ _ (state (goal.at.returns-in_err-value c).After-at-kind) _ l)
+
+pub returns-in_err-front : goal.returns-in_err-front
+returns-in_err-front c =
+    let r : c.from_residual-in_err-front.result ≡ Err c.in_err-front.field-0.0 = search rules in
+    let g = state (goal.at.returns-in_err-front c).After-at-kind in
+    let f = field_found (goal.at.returns-in_err-front c).In_ok-value in
+    let l = rw c.at-kind.ensures at c.in_err-front.ensures in
+    rw r (state_refused c.args.bytes.now (head_as c.args.head.now) _ _ _ _ _ _ _ g _ f _ l)
+
+pub slice_bounds-literals-count : goal.slice_bounds-literals-count
+slice_bounds-literals-count c =
+    let g = state (goal.at.slice_bounds-literals-count c).After-at-kind in
+    let f = field_found (goal.at.slice_bounds-literals-count c).In_ok-value in
+    let y = line_read (goal.at.slice_bounds-literals-count c).In_ok-front in
+    rw (c.heads.ensures, c.at-kind.ensures) (holds c.args.bytes.now (head_as c.args.head.now) _ _ _ _ _ _ _ g _ f _ y).long
+
+pub slice_bounds-literals-start : goal.slice_bounds-literals-start
+slice_bounds-literals-start c =
+    let g = state (goal.at.slice_bounds-literals-start c).After-at-kind in
+    let f = field_found (goal.at.slice_bounds-literals-start c).In_ok-value in
+    let y = line_read (goal.at.slice_bounds-literals-start c).In_ok-front in
+    let l = (holds c.args.bytes.now (head_as c.args.head.now) _ _ _ _ _ _ _ g _ f _ y).long in
+    let h = c.heads.ensures ∙ ap heads_of c.at-kind.ensures in
     omega arith
 
-pub bounds-ends-prev : goal.bounds-ends-prev
-bounds-ends-prev c =
-    let g = c.loop-c.invariant.0 in
-    let h = c.heads_at-heads.ensures in
-    let e = sym c.in-Good.is ∙ c.read_line-line.ensures in
-    let z = go_bounds c.args.bytes.now c.args.n c.args.m c.args.all c.args.r c.loop-c.c c.loop-c.prev c.loop-c.total c.loop-c.at c.loop-c.starts c.loop-c.ends c.loop-c.words c.loop-c.count _ _ _ _ _ _ c.loop-c-test.true g h.0 e in
-    let sr = g.starts_room in
-    let er = g.ends_room in
+pub bounds-parts-from : goal.bounds-parts-from
+bounds-parts-from c =
+    let g = state (goal.at.bounds-parts-from c).After-at-kind in
+    let f = field_found (goal.at.bounds-parts-from c).In_ok-value in
+    let y = line_read (goal.at.bounds-parts-from c).In_ok-front in
+    let m = most c.args.bytes.now (head_as c.args.head.now) _ _ _ _ _ _ _ g _ f _ y in
+    let p = g.parts_room in
     omega arith
 
-pub overflow_add-total : goal.overflow_add-total
-overflow_add-total c =
-    let g = c.loop-c.invariant.0 in
-    let h = c.heads_at-heads.ensures in
-    let e = sym c.in-Good.is ∙ c.read_line-line.ensures in
-    let z = go_bounds c.args.bytes.now c.args.n c.args.m c.args.all c.args.r c.loop-c.c c.loop-c.prev c.loop-c.total c.loop-c.at c.loop-c.starts c.loop-c.ends c.loop-c.words c.loop-c.count _ _ _ _ _ _ c.loop-c-test.true g h.0 e in
-    let sr = g.starts_room in
-    let er = g.ends_room in
-    omega arith
+pub overflow_add-at-in-loop-read : goal.overflow_add-at-in-loop-read
+overflow_add-at-in-loop-read c = omega (arith, (field_found (goal.at.overflow_add-at-in-loop-read c).In_ok-value).within)
 
-pub loop-c-preserved : goal.loop-c-preserved
-loop-c-preserved c =
-    let g = c.loop-c.invariant.0 in
-    let h = c.heads_at-heads.ensures in
-    let e = sym c.in-Good.is ∙ c.read_line-line.ensures in
-    let z = go_bounds c.args.bytes.now c.args.n c.args.m c.args.all c.args.r c.loop-c.c c.loop-c.prev c.loop-c.total c.loop-c.at c.loop-c.starts c.loop-c.ends c.loop-c.words c.loop-c.count _ _ _ _ _ _ c.loop-c-test.true g h.0 e in
-    let sr = g.starts_room in
-    let er = g.ends_room in (
-      go_next c.args.bytes.now c.args.n c.args.m c.args.all c.args.r c.loop-c.c c.loop-c.prev c.loop-c.total c.loop-c.at c.loop-c.starts c.loop-c.ends c.loop-c.words c.loop-c.count _ _ _ _ _ _ _ _ c.loop-c-test.true g h.0 e c.push_entry-count.ensures.0 c.push_entry-count.ensures.1,
-      simp length-set c.loop-c.invariant.1,
-      simp length-set c.loop-c.invariant.2,
-      search rules,
+pub loop-read-preserved : goal.loop-read-preserved
+loop-read-preserved c =
+    let g = state (goal.at.loop-read-preserved c).After-at-kind in
+    let f = field_found (goal.at.loop-read-preserved c).In_ok-value in
+    let y = line_read (goal.at.loop-read-preserved c).In_ok-front in
+    let n : c.args.head.now.clauses - (c.loop-read.read + 1) ≡ c.args.head.now.clauses - c.loop-read.read - 1 = omega arith in
+    let v = c.in_ok-value.value.now in
+    let q = c.push_entry-count.auto.words in
+    let part = ap (λ (i : ℕ). take (length v - 2 * i) (drop (2 * i) v)) (c.heads.ensures ∙ ap heads_of c.at-kind.ensures) in (
+      rw (c.from.ensures, c.push_entry-count.ensures.0, c.push_entry-count.ensures.1, n)
+          (state_next c.args.bytes.now (head_as c.args.head.now) _ _ _ _ _ _ _ g v f c.in_ok-front.front y _ part),
+      simp length-set c.loop-read.invariant.1,
       omega arith,
     )
 
-pub read_end-last-requires : goal.read_end-last-requires
-read_end-last-requires c =
-    let g = c.loop-c.invariant.0 in g.inside
+pub returns-in_err-read_end : goal.returns-in_err-read_end
+returns-in_err-read_end c =
+    let g = none_left c.loop-read-test.false c.loop-read.invariant.0 in
+    let r : c.from_residual-in_err-read_end.result ≡ Err c.in_err-read_end.field-0.0 = search rules in
+    rw r (end_refused c.args.bytes.now (head_as c.args.head.now) _ _ _ _ _ _ g _ (tests_refuse _ _ c.read_end.ensures c.in_err-read_end.was))
 
-pub returns-in-Refused-last : goal.returns-in-Refused-last
-returns-in-Refused-last c =
-    go_end_refused c.args.bytes.now c.args.n c.args.m c.args.all c.args.r c.loop-c.c c.loop-c.prev c.loop-c.total c.loop-c.at c.loop-c.starts c.loop-c.ends c.loop-c.words c.loop-c.count _ c.loop-c-test.false c.loop-c.invariant.0 (tests_refuse _ _ c.read_end-last.ensures c.in-Refused-last.is)
-
-pub returns-in-Accepted : goal.returns-in-Accepted
-returns-in-Accepted c =
-    go_end c.args.bytes.now c.args.n c.args.m c.args.all c.args.r c.loop-c.c c.loop-c.prev c.loop-c.total c.loop-c.at c.loop-c.starts c.loop-c.ends c.loop-c.words c.loop-c.count c.loop-c-test.false c.loop-c.invariant.0 (tests_pass _ c.read_end-last.ensures c.in-Accepted.is)
+pub returns : goal.returns
+returns c =
+    let g = none_left c.loop-read-test.false c.loop-read.invariant.0 in
+    end_read c.args.bytes.now (head_as c.args.head.now) _ _ _ _ _ _ g (tests_pass _ c.read_end.ensures c.in_ok-read_end.was)

@@ -1,12 +1,8 @@
 use mathlib.Core.Path.{◌≡◌}
-use Prim.Native.Nat.{◌-◌, ◌≤◌}
 use lib.ListN.{length, take}
 use Rattle.table.specs.Stack.{lay}
 use Rattle.saved.specs.Bytes.{bytes_of}
 use Rattle.saved_write.proofs.put_numbers.Given as goal
 
 abbrev pub invariant-loop-i : goal.invariant-loop-i
-invariant-loop-i l = (l.i ≤ length l.xs) × (length l.out ≡ length l.initial.out) × (l.out ≡ lay (bytes_of 2 (take l.i l.xs)) l.initial.out)
-
-abbrev pub decreases-loop-i : goal.decreases-loop-i
-decreases-loop-i l = length l.xs - l.i
+invariant-loop-i l = (length l.out ≡ length l.initial.out) × (l.out ≡ lay (bytes_of 2 (take l.i l.xs)) l.initial.out)

@@ -1,13 +1,11 @@
-use native.Mathlib.Omega.{arith}
-use Rattle.stack.proofs.Refusals.{opened_refused, opened_passed, opened}
+use Rattle.std.proofs.lemmas.Result.{err_from_is_err_and}
 use Rattle.saved_write.proofs.Refusals.{writing_refused}
 use Rattle.saved_write.proofs.write_saved.Goals as goal
 
-pub write_checked-requires : goal.write_checked-requires
-write_checked-requires c = record {
-  passed = opened_passed c.open_stack-opened.ensures c.in-Accepted.is;
-  m_in_bounds = (opened c.open_stack-opened.ensures c.in-Accepted.is c.open_stack-opened.auto.live (omega arith)).marks_many;
-}
+pub returns-in_err-opened : goal.returns-in_err-opened
+returns-in_err-opened c =
+    let p = err_from_is_err_and c.from_residual.result c.from_residual.ensures.1 in
+    rw (p.1, p.2) (writing_refused _ _ _ _ _ c.in_err-opened.ensures)
 
-pub returns-in-Refused : goal.returns-in-Refused
-returns-in-Refused c = writing_refused _ _ _ _ _ (opened_refused c.open_stack-opened.ensures _ c.in-Refused.is)
+pub returns : goal.returns
+returns c = let h = c.in_ok-opened.ensures in rw (h.table, h.stack) at c.write_checked.ensures

@@ -1,10 +1,8 @@
-use mathlib.Core.Path.{◌≡◌}
-use Prim.Native.Nat.{◌-◌, ◌≤◌}
-use lib.ListN.{length}
+use Rattle.std.proofs.Common.{length, ◌-◌, ◌≤◌, ◌≡◌}
 use Rattle.shrink.proofs.read_input.Given as goal
 
-abbrev pub invariant-loop-done : goal.invariant-loop-done
-invariant-loop-done l = (length l.text ≡ length l.initial.text) × (l.done ≤ length l.text)
+abbrev pub invariant-loop-len : goal.invariant-loop-len
+invariant-loop-len g l = (length l.text ≡ length l.initial.text) × (l.len ≤ length l.text)
 
-abbrev pub decreases-loop-done : goal.decreases-loop-done
-decreases-loop-done l = length l.text - l.done
+abbrev pub decreases-loop-len : goal.decreases-loop-len
+decreases-loop-len g l = length l.text - l.len

@@ -1,18 +1,22 @@
-use native.Mathlib.Omega.{arith}
-use Rattle.stack.proofs.Refusals.{opened_refused, opened_passed, opened, check_refused, check_unblocked, check_passes}
+use Rattle.std.proofs.Common.{arith}
+use Rattle.std.proofs.lemmas.Result.{err_from_is_err_and}
+use Rattle.stack.proofs.Refusals.{opened_passed, opened, check_refused, check_unblocked, check_passes}
 use Rattle.stack.proofs.check_stack.Goals as goal
 
-pub first_unblocked-unblocked-requires : goal.first_unblocked-unblocked-requires
-first_unblocked-unblocked-requires c = record {
-  passed = opened_passed c.open_stack-opened.ensures c.in-Accepted.is;
-  m_in_bounds = (opened c.open_stack-opened.ensures c.in-Accepted.is c.open_stack-opened.auto.live (omega arith)).marks_many;
-}
+pub returns-in_err-opened : goal.returns-in_err-opened
+returns-in_err-opened c =
+    let p = err_from_is_err_and c.from_residual.result c.from_residual.ensures.1 in
+    rw (p.1, p.2) (check_refused _ _ _ _ c.in_err-opened.ensures)
 
-pub returns-then-unblocked-gt0 : goal.returns-then-unblocked-gt0
-returns-then-unblocked-gt0 c = check_unblocked _ _ _ (opened_passed c.open_stack-opened.ensures c.in-Accepted.is) c.first_unblocked-unblocked.ensures c.if-unblocked-gt0.true
+pub first_unblocked-requires : goal.first_unblocked-requires
+first_unblocked-requires c = rw c.in_ok-opened.ensures.table (opened c.in_ok-opened.ensures c.open_stack.auto.live (omega arith)).marks_many
 
-pub returns-in-Refused : goal.returns-in-Refused
-returns-in-Refused c = check_refused _ _ _ _ (opened_refused c.open_stack-opened.ensures _ c.in-Refused.is)
+pub returns-in-Some : goal.returns-in-Some
+returns-in-Some c =
+    let h = c.in_ok-opened.ensures in
+    check_unblocked _ _ _ (opened_passed h) _ (rw (h.table, h.stack) at c.in-Some.ensures)
 
-pub returns-else-unblocked-gt0 : goal.returns-else-unblocked-gt0
-returns-else-unblocked-gt0 c = check_passes _ _ _ (opened_passed c.open_stack-opened.ensures c.in-Accepted.is) c.first_unblocked-unblocked.ensures c.if-unblocked-gt0.false
+pub returns-in-None : goal.returns-in-None
+returns-in-None c =
+    let h = c.in_ok-opened.ensures in
+    check_passes _ _ _ (opened_passed h) (rw (h.table, h.stack) at c.in-None.ensures)

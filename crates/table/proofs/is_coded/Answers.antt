@@ -1,11 +1,12 @@
-use borrow.Author.Tests.{le-leb, lt-leb}
+use Rattle.std.proofs.Common.{arith}
+use Rattle.std.proofs.lemmas.Bool.Decides.{nat_tests}
 use Rattle.table.specs.Table.{coded}
 use Rattle.table.proofs.is_coded.Goals as goal
 
-pub returns-then-x-lt2 : goal.returns-then-x-lt2
+pub returns-then-x-ge2 : goal.returns-then-x-ge2
 unfolding coded
-returns-then-x-lt2 c = rw (lt-leb _ _ c.if-x-lt2.true)
+returns-then-x-ge2 c = grind (arith, nat_tests)
 
-pub returns : goal.returns
+pub returns-else-x-ge2 : goal.returns-else-x-ge2
 unfolding coded
-returns c = rw (le-leb _ _ c.if-x-lt2.false)
+returns-else-x-ge2 c = grind (arith, nat_tests)

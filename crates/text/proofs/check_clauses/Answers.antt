@@ -1,91 +1,67 @@
 use native.Mathlib.Omega.{arith}
-use mathlib.Core.Path.{◌≡◌, refl, sym, ◌∙◌}
-use mathlib.Core.Bool.{false}
+use mathlib.Core.Path.{◌≡◌, refl, ◌∙◌}
 use mathlib.Core.List.{[], ◌∷◌, ◌++◌}
 use Prim.Native.Nat.{◌-◌, min}
 use lib.ListN.{length, take, length-append}
 use lib.Seq.{length-take-le}
+use Rattle.std.specs.Prelude.{Err}
+use Rattle.std.proofs.Common.{rules}
 use Rattle.table.specs.Limits.{base}
+use Rattle.words.specs.declared.Section.TheVariants.{Clauses}
 use Rattle.words.specs.Tokens.{tokens_from}
-use Rattle.text.specs.declared.NextClause.{NextClause}
-use Rattle.text.specs.Inner.{ReadClause}
 use Rattle.text.proofs.Fills as Fills
 use Rattle.text.proofs.check_clauses.Goals as goal
-use Rattle.text.proofs.check_clauses.Goals.{After-read_clause-clause}
 
 pub loop-k-init : goal.loop-k-init
 loop-k-init c =
-    let a = c.args in
-    (([], (0 ∷ [])), Fills.start base a.n (length a.text.now) [] (0 ∷ []) a.m (tokens_from false a.text.now a.from), refl, omega arith, omega arith, refl)
+    let a = c.args in record {
+      read = ([], (0 ∷ []));
+      rest = Fills.start base a.counts.variables (length a.text.now) [] (0 ∷ []) a.counts.clauses (tokens_from Clauses a.text.now a.from);
+      total = refl;
+      few = omega arith;
+      within = omega arith;
+      room = refl;
+    }
 
-pub slice_bounds-read_clause-end : goal.slice_bounds-read_clause-end
-slice_bounds-read_clause-end c =
-    sym c.loop-k.invariant.5
-
-pub read_clause-clause-requires : goal.read_clause-clause-requires
-read_clause-clause-requires c =
+pub read_clause-requires : goal.read_clause-requires
+read_clause-requires c =
     let i = c.loop-k.invariant in
-    let e = c.smaller-room.ensures in
-    (i.4, c.requires.1, omega arith)
+    (i.within, c.requires.1, omega (arith, c.min-room.ensures, i.room))
 
--- what was read: the contract of `read_clause` at an answer that is known
-read : (c : After-read_clause-clause) → (g : NextClause) → c.read_clause-clause.result ≡ g →
+pub returns-in_err-count : goal.returns-in_err-count
+returns-in_err-count c =
     let a = c.args in
-    let l = c.loop-k in
-    ReadClause a.text.now l.at a.n c.smaller-room.result l.kept c.read_clause-clause.new.kept g
-read c g e = rw e at c.read_clause-clause.ensures
-
--- the room is what the definition says
-room : (c : After-read_clause-clause) → c.smaller-room.result ≡ min 1000 (16000 - length c.loop-k.invariant.0.0)
-room c =
-    let e = c.smaller-room.ensures in
-    let l = c.loop-k.invariant.2 in
-    omega arith
-
-pub returns-in-Refused : goal.returns-in-Refused
-returns-in-Refused c =
     let l = c.loop-k in
     let i = l.invariant in
-    let a = c.args in
-    let g = read (goal.at.returns-in-Refused c).After-read_clause-clause _ c.in-Refused.is in
-    i.1 ∙ Fills.stops base a.n (length a.text.now) i.0.0 i.0.1 (tokens_from false a.text.now l.at) a.m l.k _ _ c.loop-k-test.true (room (goal.at.returns-in-Refused c).After-read_clause-clause) g.same
-
-pub overflow_add-total : goal.overflow_add-total
-overflow_add-total c =
-    let g = read (goal.at.overflow_add-total c).After-read_clause-clause _ c.in-Is.is in
-    let i = c.loop-k.invariant in
-    let e = c.smaller-room.ensures in
-    omega (arith, g.placed.0)
+    let x = c.in_err-count.field-0.0 in
+    let r : c.from_residual.result ≡ Err x = search rules in
+    let room : c.min-room.result ≡ min 1000 (16000 - length i.read.0) = omega (arith, c.min-room.ensures, i.total) in
+    rw r (i.rest ∙ Fills.stops base a.counts.variables (length a.text.now) i.read.0 i.read.1 (tokens_from Clauses a.text.now l.at) a.counts.clauses l._k c.min-room.result x c.loop-k-test.true room c.in_err-count.ensures.same)
 
 pub loop-k-preserved : goal.loop-k-preserved
 loop-k-preserved c =
+    let a = c.args in
     let l = c.loop-k in
     let i = l.invariant in
-    let a = c.args in
-    let g = read (goal.at.loop-k-preserved c).After-read_clause-clause _ c.in-Is.is in
-    let k = c.read_clause-clause.new.kept in
-    let count = c.in-Is.count in
-    let e = c.smaller-room.ensures in
-    let kept : length k ≡ 1000 = c.read_clause-clause.auto.kept ∙ i.5 in
-    let long : length (take count k) ≡ count = length-take-le _ _ (omega (arith, g.placed.0)) in (
-      (i.0.0 ++ take count k, i.0.1 ++ length (i.0.0 ++ take count k) ∷ []),
-      i.1 ∙ Fills.goes_on base a.n (length a.text.now) i.0.0 i.0.1 (tokens_from false a.text.now l.at) a.m l.k _ _ _ c.loop-k-test.true (room (goal.at.loop-k-preserved c).After-read_clause-clause) g.same,
-      simp length-append (omega (arith, i.2)),
-      omega (arith, g.placed.0),
-      g.placed.2,
-      kept,
-    )
+    let g = c.in_ok-count.ensures in
+    let p = g.placed in
+    let count = c.in_ok-count.count in
+    let k = c.read_clause.new.kept in
+    let room : c.min-room.result ≡ min 1000 (16000 - length i.read.0) = omega (arith, c.min-room.ensures, i.total) in
+    let kept : length k ≡ 1000 = c.read_clause.auto.kept ∙ i.room in
+    let long : length (take count k) ≡ count = length-take-le _ _ (omega (arith, p.0, c.min-room.ensures)) in
+    record {
+      read = (i.read.0 ++ take count k, i.read.1 ++ length (i.read.0 ++ take count k) ∷ []);
+      rest = i.rest ∙ Fills.goes_on base a.counts.variables (length a.text.now) i.read.0 i.read.1 (tokens_from Clauses a.text.now l.at) a.counts.clauses l._k c.min-room.result _ _ c.loop-k-test.true room g.same;
+      total = simp length-append (omega (arith, i.total));
+      few = omega (arith, p.0, c.min-room.ensures, i.few);
+      within = p.2;
+      room = kept;
+    }
 
-pub returns-in-None : goal.returns-in-None
-returns-in-None c =
-    let i = c.loop-k.invariant in
+pub returns : goal.returns
+returns c =
     let a = c.args in
-    let e = rw c.in-None.is at c.next_token-next.ensures in
-    (i.0, i.1 ∙ rw e.same (Fills.last_none base a.n (length a.text.now) i.0.0 i.0.1 a.m c.loop-k.k c.loop-k-test.false))
-
-pub returns-in-At : goal.returns-in-At
-returns-in-At c =
-    let i = c.loop-k.invariant in
-    let a = c.args in
-    let e = rw c.in-At.is at c.next_token-next.ensures in
-    i.1 ∙ rw e.same (Fills.last_more base a.n (length a.text.now) i.0.0 i.0.1 a.m c.loop-k.k _ _ c.loop-k-test.false)
+    let l = c.loop-k in
+    let i = l.invariant in
+    Fills.ended base a.counts.variables (length a.text.now) i.read.0 i.read.1 a.counts.clauses l._k l.at a.text.now _ c.loop-k-test.false i.rest c.no_more.result c.no_more.ensures

@@ -1,19 +1,20 @@
 use mathlib.Core.Path.{◌≡◌}
-use mathlib.Core.Bool.{false}
 use Prim.Native.Nat.{◌+◌, ◌-◌, ◌≤◌}
-use lib.ListN.{length, drop, take}
+use lib.ListN.{length, take, drop, set}
 use Rattle.table.specs.Limits.{base}
+use Rattle.words.specs.declared.Section.TheVariants.{Clauses}
 use Rattle.words.specs.Tokens.{tokens_from}
 use Rattle.text.specs.Clauses.{clauses}
 use Rattle.text.specs.Inner.{clauses_from}
 use Rattle.text.proofs.fill_clauses.Given as goal
 
 abbrev pub invariant-loop-k : goal.invariant-loop-k
-invariant-loop-k l =
-    (clauses_from l.text l.from l.n l.m ≡ clauses base l.n (length l.text) (take l.total l.lits) (take (l.k + 1) l.offs) (l.m - l.k) (tokens_from false l.text l.at)) ×
-    (l.total ≤ 16000) × (l.k ≤ l.m) × (l.at ≤ length l.text) ×
-    (length l.lits ≡ length l.initial.lits) × (drop l.total l.lits ≡ drop l.total l.initial.lits) ×
-    (length l.offs ≡ length l.initial.offs) × (drop (l.k + 1) l.offs ≡ drop (l.k + 1) l.initial.offs)
-
-abbrev pub decreases-loop-k : goal.decreases-loop-k
-decreases-loop-k l = l.m - l.k
+invariant-loop-k l = record {
+  rest : clauses_from l.text l.from l.counts.variables l.counts.clauses ≡ clauses base l.counts.variables (length l.text) (take l.total l.lits) (take (l.k + 1) l.offs) (l.counts.clauses - l.k) (tokens_from Clauses l.text l.at);
+  few : l.total ≤ 16000;
+  within : l.at ≤ length l.text;
+  long_lits : length l.lits ≡ length l.fn.lits;
+  lits_behind : drop l.total l.lits ≡ drop l.total l.fn.lits;
+  long_offs : length l.offs ≡ length (set l.fn.offs 0 0);
+  offs_behind : drop (l.k + 1) l.offs ≡ drop (l.k + 1) (set l.fn.offs 0 0);
+}

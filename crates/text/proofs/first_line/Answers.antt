@@ -1,21 +1,23 @@
 use native.Mathlib.Omega.{arith}
-use mathlib.Core.Path.{sym, ◌∙◌}
+use mathlib.Core.Path.{ap, sym, ◌∙◌}
+use lib.ListN.{length}
+use Rattle.std.proofs.lemmas.Slice.{between_to_end}
+use Rattle.text.specs.Lines.{comment}
 use Rattle.text.proofs.Lines as Lines
 use Rattle.text.proofs.first_line.Goals as goal
 
-pub loop-i-smaller : goal.loop-i-smaller
-loop-i-smaller c = let e = c.next_line-i.ensures in omega (arith, e.from, e.within)
-
-pub loop-i-preserved : goal.loop-i-preserved
-loop-i-preserved c =
-    let l = c.loop-i in
-    let e = c.next_line-i.ensures in
-    (l.invariant.0 ∙ Lines.line_comment _ _ c.loop-i-test.true (sym c.comment_at.ensures ∙ c.if-comment_at.true) ∙ e.same, e.within)
-
-pub returns-else-comment_at : goal.returns-else-comment_at
-returns-else-comment_at c =
-    let l = c.loop-i in
-    (sym (l.invariant.0 ∙ Lines.line_other _ _ c.loop-i-test.true (sym c.comment_at.ensures ∙ c.if-comment_at.false)), l.invariant.1)
+pub loop-at-preserved : goal.loop-at-preserved
+loop-at-preserved c =
+    let s = c.args.text.now in
+    let l = c.loop-at in
+    let e = ap comment (between_to_end s l.at (length s) (omega arith)) in
+    let y = sym e ∙ sym c.comment.ensures ∙ c.loop-at-test.true in
+    let n = c.next_line-at.ensures in
+    record { rest = l.invariant.rest ∙ Lines.line_comment s l.at (Lines.comment_within s l.at y) y ∙ n.same; within = n.within }
 
 pub returns : goal.returns
-returns c = let l = c.loop-i in (sym (l.invariant.0 ∙ Lines.prologue_out _ _ c.loop-i-test.false), l.invariant.1)
+returns c =
+    let s = c.args.text.now in
+    let l = c.loop-at in
+    let e = ap comment (between_to_end s l.at (length s) (omega arith)) in
+    (sym (l.invariant.rest ∙ Lines.line_other _ l.at (sym e ∙ sym c.comment.ensures ∙ c.loop-at-test.false)), l.invariant.within)

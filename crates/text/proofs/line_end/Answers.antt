@@ -1,22 +1,28 @@
 use native.Mathlib.Omega.{arith}
-use mathlib.Core.Path.{sym, ◌∙◌}
+use mathlib.Core.Path.{◌≡◌, ap, sym, ◌∙◌}
+use lib.ListN.{length}
+use Rattle.std.proofs.lemmas.Slice.{between_to_end}
+use Rattle.text.specs.Lines.{ends}
 use Rattle.text.proofs.Lines as Lines
 use Rattle.text.proofs.line_end.Goals as goal
 
-pub returns-then-ends_at : goal.returns-then-ends_at
-returns-then-ends_at c =
+pub returns-then-ends : goal.returns-then-ends
+returns-then-ends c =
     let s = c.args.text.now in
-    let l = c.loop-i in
-    (sym (l.invariant.0 ∙ Lines.line_stop s l.i c.loop-i-test.true (sym c.ends_at.ensures ∙ c.if-ends_at.true)), l.invariant.1, l.invariant.2)
+    let i = c.loop-i.i in
+    let e = ap ends (between_to_end s i (length s) (omega arith)) in
+    (sym (c.loop-i.invariant ∙ Lines.line_stop s i (omega arith) (sym e ∙ sym c.ends.ensures ∙ c.if-ends.true)), omega arith, omega arith)
 
 pub loop-i-preserved : goal.loop-i-preserved
 loop-i-preserved c =
     let s = c.args.text.now in
-    let l = c.loop-i in
-    (l.invariant.0 ∙ Lines.line_on s l.i c.loop-i-test.true (sym c.ends_at.ensures ∙ c.if-ends_at.false), omega arith, omega arith)
+    let i = c.loop-i.i in
+    let e = ap ends (between_to_end s i (length s) (omega arith)) in
+    c.loop-i.invariant ∙ Lines.line_on s i (omega arith) (sym e ∙ sym c.ends.ensures ∙ c.if-ends.false)
 
 pub returns : goal.returns
 returns c =
     let s = c.args.text.now in
-    let l = c.loop-i in
-    (sym (l.invariant.0 ∙ Lines.line_out s l.i c.loop-i-test.false), l.invariant.1, l.invariant.2)
+    let i = c.loop-i.i in
+    let u : i ≡ length s = omega (arith, c.loop-i.auto.i-end c.requires) in
+    (sym (c.loop-i.invariant ∙ Lines.line_out s i c.loop-i-test.false ∙ u), omega arith, c.requires)

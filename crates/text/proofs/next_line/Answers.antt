@@ -1,19 +1,19 @@
 use native.Mathlib.Omega.{arith}
-use mathlib.Core.Path.{◌∙◌}
+use mathlib.Core.Path.{ap, sym, ◌∙◌}
+use lib.ListN.{length}
+use Rattle.std.specs.Prelude.{position}
+use Rattle.std.proofs.lemmas.Slice.{between_to_end}
 use Rattle.text.proofs.Lines as Lines
 use Rattle.text.proofs.next_line.Goals as goal
 
-pub returns-then-text-i-eq10 : goal.returns-then-text-i-eq10
-returns-then-text-i-eq10 c =
-    let l = c.loop-i in
-    record { same = l.invariant.0 ∙ Lines.pass_lf _ _ c.loop-i-test.true c.if-text-i-eq10.true; from = omega arith; within = omega arith }
+pub returns-in-Some : goal.returns-in-Some
+returns-in-Some c =
+    let a = c.args in
+    let e = ap (position Lines.is_lf) (between_to_end a.text.now a.from (length a.text.now) (omega arith)) in
+    Lines.passed_at a.text.now a.from c.requires c.in-Some.n (sym (c.in-Some.ensures ∙ e))
 
-pub loop-i-preserved : goal.loop-i-preserved
-loop-i-preserved c =
-    let l = c.loop-i in
-    (l.invariant.0 ∙ Lines.pass_on _ _ c.loop-i-test.true c.if-text-i-eq10.false, omega arith, omega arith)
-
-pub returns : goal.returns
-returns c =
-    let l = c.loop-i in
-    record { same = l.invariant.0 ∙ Lines.pass_out _ _ c.loop-i-test.false; from = l.invariant.1; within = l.invariant.2 }
+pub returns-in-None : goal.returns-in-None
+returns-in-None c =
+    let a = c.args in
+    let e = ap (position Lines.is_lf) (between_to_end a.text.now a.from (length a.text.now) (omega arith)) in
+    Lines.passed_none a.text.now a.from c.requires (sym (c.in-None.ensures ∙ e))

@@ -1,8 +1,0 @@
-use Rattle.broodchamber.proofs.Calls.{not_made, made_wrote}
-use Rattle.broodchamber.proofs.bc_write_saved.Goals as goal
-
-pub returns-then-answer-lt4 : goal.returns-then-answer-lt4
-returns-then-answer-lt4 c = not_made _ _ _ _ c.if-answer-lt4.true
-
-pub returns : goal.returns
-returns c = made_wrote _ _ _ _ _ c.write_saved-written.ensures c.if-answer-lt4.false c.tell.ensures c.of_written.ensures
