@@ -68,19 +68,21 @@ pub fn removes(
     case: Case<'_>,
     table: &Table<'_>,
     stack: &mut [u32],
-) -> anyhow::Result<()> {
-    let count = case.item(6, 0)?;
-    let clause = case.item(6, 1)?;
-    let literal = case.item(6, 2)?;
+) -> io::Result<()> {
+    let count = case.item(6, 0);
+    let clause = case.item(6, 1);
+    let literal = case.item(6, 2);
     print!(rt; "{clause} by {literal} ")?;
     match removal::remove(table, stack, count, Entry { clause, literal }) {
-        Ok(made) => print!(rt; "makes {made}:{}", Items(stack))?,
+        Ok(made) => {
+            let (first, _) = cut(stack, 12);
+            print!(rt; "makes {made}:{}", Items(first))
+        }
         Err(refusal) => {
-            let lent = case.items::<u32>(alloc, 5)?;
-            refused(rt, refusal, *stack == *lent.as_slice())?;
+            let lent = case.items::<u32>(alloc, 5, 20)?;
+            refused(rt, refusal, *stack == *lent.as_slice())
         }
     }
-    Ok(())
 }
 
 // Rebuilds the values that a line has.
@@ -90,19 +92,18 @@ pub fn rebuilds(
     case: Case<'_>,
     table: &Table<'_>,
     stack: &Stack<'_>,
-) -> anyhow::Result<()> {
-    let lent = case.items::<u8>(alloc, 7)?;
+) -> io::Result<()> {
+    let lent = case.items::<u8>(alloc, 7, 6)?;
     let mut vals = lent.clone()?;
     match rebuild(table, stack, &mut vals) {
-        Ok(()) => print!(rt; "gives{}", Items(&vals))?,
+        Ok(()) => print!(rt; "gives{}", Items(&vals)),
         Err(refusal) => {
             let values = if vals == lent {
                 "the values are as they came"
             } else {
                 "THE VALUES ARE CHANGED"
             };
-            print!(rt; "{refusal}; {values}")?;
+            print!(rt; "{refusal}; {values}")
         }
     }
-    Ok(())
 }

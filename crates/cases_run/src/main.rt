@@ -1,7 +1,8 @@
 // Runs document 01's cases, both sides of each limit, every refusal from 3 to 9 and every order of two refusals through the code, and prints what
 // came: answers, numbers and places, and whether the lent buffers are as they should be. A buffer's old contents are sevens. The cases are in standard
 // input, a line for each: the label, the call, the numbers of variables and clauses, the literals, the offsets, the stack, then the count of entries and
-// a removal's clause and literal, and the values. A line that says 'limits' is for those whose tables are too long for a line.
+// a removal's clause and literal, and the values. A line that says 'limits' is for those whose tables are too long for a line. An empty line ends the
+// cases, and no more than 8,192 bytes are read. A call that has no such name prints a line without a result.
 #![tactic(auto)]
 
 mod calls; // calls.rt: each call, and what came of it
@@ -9,6 +10,7 @@ mod limits; // limits.rt: both sides of each limit
 
 use lines::Case;
 use std::alloc::Global;
+use std::io;
 use table::{Stack, Table};
 
 // Makes the call that a line names, of those that only read the stack.
@@ -18,50 +20,54 @@ fn reads(
     case: Case<'_>,
     table: &Table<'_>,
     words: &[u32],
-) -> anyhow::Result<()> {
-    let count = case.item(6, 0)?;
+) -> io::Result<()> {
+    let count = case.item(6, 0);
     let stack = Stack { words, count };
     match case.field(1) {
-        "next_blocked" => calls::asks(rt, table, &stack)?,
-        "check_stack" => calls::checks(rt, table, &stack)?,
-        "clause_literals" => calls::hands_out(rt, table, count)?,
-        "rebuild" => calls::rebuilds(rt, alloc, case, table, &stack)?,
-        call => anyhow::bail!("no call {call}"),
+        b"next_blocked" => calls::asks(rt, table, &stack),
+        b"check_stack" => calls::checks(rt, table, &stack),
+        b"clause_literals" => calls::hands_out(rt, table, count),
+        b"rebuild" => calls::rebuilds(rt, alloc, case, table, &stack),
+        _ => Ok(()),
     }
-    Ok(())
 }
 
 // Makes the call that a line names, and prints a line with what came.
-fn runs(rt: &impl Print, alloc: Global, case: Case<'_>) -> anyhow::Result<()> {
-    let lits = case.items::<u16>(alloc, 3)?;
-    let offs = case.items::<u32>(alloc, 4)?;
-    let mut stack = case.items::<u32>(alloc, 5)?;
+fn runs(rt: &impl Print, alloc: Global, case: Case<'_>) -> io::Result<()> {
+    let lits = case.items::<u16>(alloc, 3, 10)?;
+    let offs = case.items::<u32>(alloc, 4, 6)?;
+    let mut stack = case.items::<u32>(alloc, 5, 20)?;
     let table = Table {
-        variables: case.item(2, 0)?,
-        clauses: case.item(2, 1)?,
+        variables: case.item(2, 0),
+        clauses: case.item(2, 1),
         lits: &lits,
         offs: &offs,
     };
     let call = case.field(1);
-    print!(rt; "{}: {call} ", case.field(0))?;
+    say::label(rt, case.field(0))?;
+    rt.write_all(call)?;
+    print!(rt; " ")?;
     match call {
-        "eliminate" => calls::eliminates(rt, &table, &mut stack)?,
-        "remove" => calls::removes(rt, alloc, case, &table, &mut stack)?,
+        b"eliminate" => calls::eliminates(rt, &table, &mut stack)?,
+        b"remove" => calls::removes(rt, alloc, case, &table, &mut stack)?,
         _ => reads(rt, alloc, case, &table, &stack)?,
     }
-    println!(rt;)?;
-    Ok(())
+    println!(rt;)
 }
 
 // Runs each line.
-fn main(rt: HostRuntime) -> anyhow::Result<()> {
+fn main(rt: HostRuntime) -> io::Result<()> {
     let alloc = rt.alloc();
-    for line in rt.lines(alloc) {
-        let line = line?;
-        if line.as_str() == "limits" {
+    let mut table = [0; 8192];
+    let len = lines::read_table(&mut rt.stdin(), &mut table);
+    for line in table[..len]
+        .split(|b| *b == b'\n')
+        .take_while(|line| !line.is_empty())
+    {
+        if line == b"limits".as_slice() {
             limits::run(&rt, alloc)?;
         } else {
-            runs(&rt, alloc, Case { line: &line })?;
+            runs(&rt, alloc, Case { line })?;
         }
     }
     Ok(())

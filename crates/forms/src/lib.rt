@@ -67,25 +67,26 @@ pub fn read(form: &[u8], buffers: &mut Buffers) -> Result<Restored, Refusal>
 // Reads a form into lent buffers, and prints a line with what came.
 pub fn reads_into(
     rt: &impl Print,
-    label: &str,
+    label: &[u8],
     form: &[u8],
     buffers: &mut Buffers,
 ) -> io::Result<()> {
+    say::label(rt, label)?;
     match read(form, buffers) {
         Ok(counts) => {
             let left = buffers.left(counts.variables, counts.clauses, counts.removals);
-            print!(rt; "{label}: {}{}", Counted(counts), Contents(&left.table))?;
+            print!(rt; "{}{}", Counted(counts), Contents(&left.table))?;
             if say::is_small(&left.table) {
                 print!(rt; "; stack{}", Items(left.stack))?;
             }
             println!(rt; "{}", Kept(left.is_rest_kept))
         }
-        Err(refusal) => println!(rt; "{label}: {refusal}{}", Kept(buffers.are_kept())),
+        Err(refusal) => println!(rt; "{refusal}{}", Kept(buffers.are_kept())),
     }
 }
 
 // Reads a form into buffers that have exactly the room asked for, and prints a line with what came.
-pub fn reads(rt: &impl Print, alloc: Global, label: &str, form: &[u8]) -> io::Result<()> {
+pub fn reads(rt: &impl Print, alloc: Global, label: &[u8], form: &[u8]) -> io::Result<()> {
     reads_into(rt, label, form, &mut buffers(alloc)?)
 }
 

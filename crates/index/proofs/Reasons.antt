@@ -1,7 +1,7 @@
 -- The test of one clause, and the first literal that blocks one, as a loop over its literals meets it. Assumes nothing.
-use mathlib.Core.Path.{◌≡◌, sym, ◌∙◌, ap}
+use mathlib.Core.Path.{◌≡◌, refl, sym, ◌∙◌, ap}
 use mathlib.Core.Bool.{Bool, true, false}
-use mathlib.Core.List.{List, []}
+use mathlib.Core.List.{List, [], ◌∷◌}
 use mathlib.Core.Logic.{◌≢◌}
 use Prim.Native.Nat.{ℕ, ◌+◌, ◌≤◌, ◌<◌}
 use native.Mathlib.Numerals.{add-one}
@@ -35,6 +35,10 @@ module _ (b : Book) (L : Live) (C : Clause) (l j : ℕ) where
   -- a test of the clause D that is C
   pub bars_told : (D : Clause) (r : Bool) → D ≡ C → r ≡ bars literal b L D l j → bars literal b L C l j ≡ r
   bars_told D r e h = rw (← e) (sym h)
+
+-- a literal that was found is the reason of one entry
+pub entry_of_lem : (k l : ℕ) → entry_of k (Some l) ≡ (k, l) ∷ []
+entry_of_lem k l = refl
 
 -- what clause k's turn comes to
 module _ (b : Book) (L : Live) (k : ℕ) where

@@ -29,7 +29,7 @@ pub fn mark_all(m: usize, live: &mut [bool])
     }
 }
 
-// Puts clause k at the head of the chain of each of its literals.
+// Puts clause k at the head of the chain of each of its literals. (`next_holder` goes through the same stretch: the two share no more than its ends.)
 fn link_row(t: &SoundTable, heads: &mut [u16], nexts: &mut [u16], k: usize)
     requires named { (1 ≤ k) × (k ≤ t.now.table.clauses) }
     requires linking { Linking (lent t.now.table) heads.old nexts.old k }
@@ -74,7 +74,7 @@ fn clause_plain(n: usize, c: &[u16], k: u16, seen: &mut [u16]) -> bool
     true
 }
 
-// Marks the plain clauses of a sound table: those that are no tautologies.
+// Marks the plain clauses of a sound table: those that are no tautologies. (`Table::clauses_sound` goes through the clauses too, but stops at the first.)
 fn mark_plain(t: &SoundTable, plain: &mut [bool])
     requires room { t.now.table.clauses < length plain.old }
     ensures { Plain (lent t.now.table) plain.new }
@@ -94,20 +94,21 @@ fn linked(link: u16) -> Option<usize>
 }
 
 // What the test of one literal reads besides the marks of the live clauses: a sound table, its occurrence index, and the marks of its plain clauses. The
-// chains are clause numbers in arrays of fixed size, since there is no heap.
+// chains are clause numbers in arrays of fixed size, since there is no heap. The marks of the live clauses and a clause's number stay parameters, with clauses of
+// their own: both change from call to call, and a type for either would hold the table once more.
 #[derive(Clone, Copy, Debug)]
 pub struct Index<'t, 'a> {
     pub book: SoundTable<'t>,
-    heads: &'a [u16],
-    nexts: &'a [u16],
-    plain: &'a [bool],
+    pub heads: &'a [u16],
+    pub nexts: &'a [u16],
+    pub plain: &'a [bool],
     pub ghost indexed: { Indexed (lent book.table) heads.now nexts.now },
     pub ghost plains: { Plain (lent book.table) plain.now },
 }
 
 impl<'t, 'a> Index<'t, 'a> {
     // Builds the index of a sound table in buffers that hold zeros, and marks its plain clauses. Each caller has the three arrays of its own: there is no
-    // heap, and a function that made them would hand 48,006 bytes over by a copy.
+    // heap, and a function that made them would hand 44,005 bytes over by a copy.
     pub fn build(
         t: &SoundTable<'t>,
         heads: &'a mut [u16],
@@ -152,7 +153,7 @@ impl<'t, 'a> Index<'t, 'a> {
         None
     }
 
-    // Whether clause j is live and keeps l from blocking c; `easy` says that c is known to be plain.
+    // Whether clause j is live and keeps l from blocking c; `easy` says that c is known to be plain, which is read once for all clauses j.
     fn bars(&self, live: &[bool], c: &[u16], easy: bool, l: u16, j: usize) -> bool
         requires plain { easy ≡ true → tautology c.now ≡ false }
         requires named { (self.now.book.table.clauses < length live.now) × (1 ≤ j) × (j ≤ self.now.book.table.clauses) }

@@ -1,1 +1,1 @@
-pub mod Parsed
+pub mod Numbers

@@ -22,9 +22,22 @@ fn headers(rt: &impl Print, alloc: Global) -> io::Result<()> {
     ] {
         let mut form = Form::new(alloc, variables, clauses, literals, 0)?;
         form.put_end()?;
-        reads(rt, alloc, label, &form.bytes)?;
+        reads(rt, alloc, label.as_bytes(), &form.bytes)?;
     }
     Ok(())
+}
+
+// Writes a table and a stack's entries, with so much room for the form, and reads it back.
+fn saves(
+    rt: &impl Print,
+    alloc: Global,
+    label: &str,
+    table: &Table<'_>,
+    stack: &Stack<'_>,
+    room: usize,
+) -> io::Result<()> {
+    let mut out = vec![in alloc; 7; room]?;
+    comes_back(rt, alloc, label, table, stack, &mut out)
 }
 
 // Writes a table with no removals, with so much room for the form, and reads it back.
@@ -39,17 +52,10 @@ fn live(
         words: &[7; 8002],
         count: 0,
     };
-    comes_back(
-        rt,
-        alloc,
-        label,
-        table,
-        &stack,
-        &mut vec![in alloc; 7; room]?,
-    )
+    saves(rt, alloc, label, table, &stack, room)
 }
 
-// Writes a table after elimination, with so much room for the form, and reads it back.
+// Writes a table after elimination, with so much room for the form, and reads it back. Where elimination refuses, there is no entry, as ever.
 fn removed(
     rt: &impl Print,
     alloc: Global,
@@ -63,14 +69,7 @@ fn removed(
         words: &words,
         count,
     };
-    comes_back(
-        rt,
-        alloc,
-        label,
-        table,
-        &stack,
-        &mut vec![in alloc; 7; room]?,
-    )
+    saves(rt, alloc, label, table, &stack, room)
 }
 
 // 2,000 and 2,001 variables.
@@ -155,7 +154,7 @@ fn long_fields(rt: &impl Print, alloc: Global) -> io::Result<()> {
         let mut form = Form::new(alloc, 2000, 1, many, removals(kind, 1))?;
         form.put_clause(kind, k, many)?;
         form.put_end()?;
-        reads(rt, alloc, label, &form.bytes)?;
+        reads(rt, alloc, label.as_bytes(), &form.bytes)?;
     }
     Ok(())
 }
@@ -186,7 +185,7 @@ fn long_forms(rt: &impl Print, alloc: Global) -> io::Result<()> {
         }
         form.put_clause(kind, k, many)?;
         form.put_end()?;
-        reads(rt, alloc, label, &form.bytes)?;
+        reads(rt, alloc, label.as_bytes(), &form.bytes)?;
     }
     Ok(())
 }

@@ -1,5 +1,5 @@
 -- Rebuild's tests in the order of document 01: what the call comes to at the first that refuses, and where none does. Assumes nothing.
-use mathlib.Core.Path.{◌≡◌, refl, sym, ◌∙◌}
+use mathlib.Core.Path.{◌≡◌, sym, ◌∙◌}
 use mathlib.Core.Bool.{Bool, true}
 use mathlib.Core.List.{List, []}
 use mathlib.Core.Option.{some}
@@ -20,8 +20,8 @@ use Rattle.table.specs.declared.Refusal.TheVariants.{NotBlocking, BadValues, Not
 use Rattle.table.proofs.Found.{found_none}
 use Rattle.table.proofs.Answers.{test_found}
 use Rattle.index.specs.Index.{live_of}
-use Rattle.stack.specs.Tests.{lent_tests, unblocked_entry, live_after}
-use Rattle.stack.specs.Inner.{Checked, Passed}
+use Rattle.stack.specs.Tests.{lent_tests, unblocked_entry, blocking_tests, live_after}
+use Rattle.stack.specs.Inner.{Blocking, Passed}
 use Rattle.stack.proofs.Refusals.{passed_lent}
 use Rattle.rebuild.specs.Rebuild.{rebuilt, rebuilding}
 use Rattle.rebuild.specs.Inner.{Valued}
@@ -49,18 +49,14 @@ module _ (t : Table) (ws : List ℕ) (c : ℕ) (vs : List ℕ) where
     pub valued : None ≡ found (bad_value vs t.variables) → Valued t.variables vs
     valued b = record { room = many; bits = values_good vs t.variables (found_none _ b) }
 
+    pub refuses_unblocked : (r : Refusal) → blocking_tests t ws c ≡ some r → outcome (verdict (Err r)) vs ≡ rebuilding base t ws c vs
+    refuses_unblocked r h = sym (placed ∙ rw h)
+
     module _ {marks : List Bool} where
-      pub refuses_unblocked : (entry : ℕ) → Checked t ws c marks (Some entry)
-          → outcome (verdict (Err (NotBlocking entry))) vs ≡ rebuilding base t ws c vs
-      refuses_unblocked entry k = sym (placed ∙ rw (test_found _ NotBlocking k.unblocked))
-
-      module _ (k : Checked t ws c marks None) where
-        blocked : unblocked_entry t ws c ≡ 0
-        blocked = found_none _ k.unblocked
-
+      module _ (k : Blocking t ws c marks) where
         pub refuses_value : (variable : ℕ) → Some variable ≡ found (bad_value vs t.variables)
             → outcome (verdict (Err (BadValues variable))) vs ≡ rebuilding base t ws c vs
-        refuses_value variable h = sym (placed ∙ rw (blocked, test_found _ BadValues h))
+        refuses_value variable h = sym (placed ∙ rw (k.none_unblocked, test_found _ BadValues h))
 
         module _ (b : None ≡ found (bad_value vs t.variables)) where
           bits : bad_value vs t.variables ≡ 0
@@ -68,9 +64,9 @@ module _ (t : Table) (ws : List ℕ) (c : ℕ) (vs : List ℕ) where
 
           pub refuses_clause : (clause : ℕ) → Some clause ≡ found (falsified (book_of t) (live_of marks) (values_of vs))
               → outcome (verdict (Err (NotModel clause))) vs ≡ rebuilding base t ws c vs
-          refuses_clause clause f = sym (placed ∙ rw (blocked, bits, test_found _ NotModel (rw (k.live refl) at f)))
+          refuses_clause clause f = sym (placed ∙ rw (k.none_unblocked, bits, test_found _ NotModel (rw k.live at f)))
 
           pub accepts : None ≡ found (falsified (book_of t) (live_of marks) (values_of vs))
               → {new : List ℕ} → new ≡ lay (bytes_of (rebuilt t ws c vs) t.variables) vs
               → outcome (verdict (Ok tt)) new ≡ rebuilding base t ws c vs
-          accepts f n = sym (placed ∙ rw (blocked, bits, found_none _ (rw (k.live refl) at f), n))
+          accepts f n = sym (placed ∙ rw (k.none_unblocked, bits, found_none _ (rw k.live at f), n))

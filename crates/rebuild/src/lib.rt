@@ -19,7 +19,7 @@ use index::Marks;
 use stack::Opened;
 use table::{Entry, Refusal, Stack, Table};
 
-// The lowest of the variables 1 to n whose byte is neither 0 nor 1.
+// The lowest of the variables 1 to n whose byte is neither 0 nor 1. (`false_clause` searches in the same way; `find` over a range is no plainer.)
 #[tactic(auto, unfolding(table::specs::Values::bad_value), using(crate::proofs::Lowest::lowest, crate::proofs::Bytes::byte_tests))]
 fn bad_value(n: usize, vals: &[u8]) -> Option<usize>
     requires { n ≤ length vals.now }
@@ -125,9 +125,7 @@ pub fn rebuild(t: &Table, stack: &Stack, vals: &mut [u8]) -> Result<(), Refusal>
     let room = t.variables <= vals.len();
     let mut live = [false; 4001];
     let opened = stack::open_stack(t, stack, room, &mut live)?;
-    if let Some(entry) = opened.first_unblocked(&mut live) {
-        return Err(Refusal::NotBlocking(entry));
-    }
+    opened.check_entries(&mut live)?;
     if let Some(variable) = bad_value(t.variables, vals) {
         return Err(Refusal::BadValues(variable));
     }

@@ -3,16 +3,18 @@ use mathlib.Core.Path.{◌≡◌, refl, sym, ◌∙◌, ap}
 use mathlib.Core.Bool.{Bool, true, false, ◌||◌}
 use mathlib.Core.List.{[], ◌∷◌, ◌++◌}
 use mathlib.Core.Logic.{◌≢◌, ◌⊎◌, inl, inr, ⊎_elim}
-use Prim.Native.Nat.{ℕ, zero, suc, ◌≤◌, ◌<◌}
+use Prim.Native.Nat.{ℕ, zero, suc, ◌+◌, ◌≤◌, ◌<◌}
 use native.Mathlib.Omega.{arith}
-use lib.Dec.{eqb}
+use native.Mathlib.Numerals.{add-one}
+use mir.Val.{bool_byte}
+use lib.Dec.{eqb, ltb}
 use lib.ListN.{length, get_or, take}
 use lib.Seq.{take-suc}
-use borrow.Author.Tests.{eqb-true, eqb-false, eq-eqb, ne_eqb}
+use borrow.Author.Tests.{eqb-true, eqb-false, eq-eqb, ne_eqb, le-leb}
 use Rattle.rules.specs.Walk.{any}
 use Rattle.rules.specs.Clause.{Clause, mem, without}
 use Rattle.rules.specs.Proposition.{◌∈◌, here, there}
-use Rattle.rules.proofs.Logic.{by_bool, by_eq, differ, not_false, or_no}
+use Rattle.rules.proofs.Logic.{by_bool, by_eq, by_or, differ, not_false, or_yes, or_no, same}
 use Rattle.std.proofs.lemmas.List.Folds.{list_any-append}
 
 pub any_mem : (p : ℕ → Bool) (C : Clause) (x : ℕ) → mem x C ≡ true → p x ≡ true → any p C ≡ true
@@ -120,3 +122,22 @@ pub absent : (n l : ℕ) (C : Clause) → ((i : ℕ) → get_or C i 0 < n) → n
 unfolding mem
 absent n l [] h b = refl
 absent n l (x ∷ C) h b = rw (ne_eqb l x (λ e. omega (arith, h 0)), absent n l C (λ i. h (suc i)) b)
+
+-- a clause gone through part by part
+module _ (l : ℕ) (all part rest : Clause) (e : all ≡ part ++ rest) where
+  pub part_holds : mem l part ≡ true → mem l all ≡ true
+  part_holds h = rw e (append_l l part rest h)
+
+  pub part_passed : mem l part ≡ false → mem l rest ≡ mem l all
+  part_passed n = rw e (same (mem l rest) (mem l (part ++ rest)) (append_r l part rest) (λ y. by_or (mem_append l part rest y) (λ p. differ p n) (λ r. r)))
+
+-- a part gone through to its end: how often the literal was met
+pub met_next : (l : ℕ) (C : Clause) (i many one : ℕ) → i < length C → ltb 0 many ≡ mem l (take i C) → one ≡ bool_byte (eqb (get_or C i 0) l)
+    → (one ≤ 1) × (ltb 0 (many + one) ≡ mem l (take (i + 1) C))
+met_next l C i many one h k e =
+    by_eq (get_or C i 0) l
+    (λ y. let o : one ≡ 1 = rw (eq-eqb (get_or C i 0) l y) at e in
+    (omega arith, rw (add-one, mem_next l C i h, eq-eqb l (get_or C i 0) (sym y), or_yes, o) (le-leb 1 (many + 1) (omega arith))))
+    (λ n. let o : one ≡ 0 = rw (ne_eqb (get_or C i 0) l n) at e in
+    let z : many + one ≡ many = omega arith in
+    (omega arith, rw (add-one, mem_next l C i h, ne_eqb l (get_or C i 0) (λ y. n (sym y)), or_no, z) k))

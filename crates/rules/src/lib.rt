@@ -1,7 +1,7 @@
 // Literals and clauses: the leaves on which every test of a rule book stands. A clause is a stretch of 16-bit literal codes.
 #![tactic(auto)]
 
-ghost use Rattle.std.specs.Prelude.{◌≡◌, false};
+ghost use Rattle.std.specs.Prelude.{◌≡◌, ◌≤◌, false, length};
 ghost use Rattle.rules.specs.Walk.{any};
 ghost use Rattle.rules.specs.Clause.{neg, mem, tautology};
 ghost use Rattle.rules.specs.Blocking.{resists};
@@ -15,16 +15,29 @@ pub fn negated(l: u16) -> u16
     if l % 2 == 0 { l + 1 } else { l - 1 }
 }
 
-// Whether the clause holds the literal. It goes to the end whatever it meets, so that the machine compares many literals at once.
-#[tactic(auto, unfolding(crate::specs::Clause::mem))]
+// Whether a part of a clause, of at most 64 literals, holds the literal. It goes to the end whatever it meets and counts in 16 bits, so that the machine
+// compares many literals at once.
+fn part_contains(part: &[u16], l: u16) -> bool
+    requires { length part.now ≤ 64 }
+    ensures { result ≡ mem l part.now }
+{
+    let mut many = 0;
+    for i in 0..part.len() {
+        many += u16::from(part[i] == l);
+    }
+    0 < many
+}
+
+// Whether the clause holds the literal.
 pub fn contains(c: &[u16], l: u16) -> bool
     ensures { result ≡ mem l c.now }
 {
-    let mut found = false;
-    for x in c {
-        found |= *x == l;
+    for part in c.chunks(64) {
+        if part_contains(part, l) {
+            return true;
+        }
     }
-    found
+    false
 }
 
 // Whether the clause holds the literal of a stack's word, which may be no code at all.
@@ -47,7 +60,7 @@ fn opposes(d: &[u16], z: u16, x: u16) -> bool
     y != z && contains(d, y)
 }
 
-// Whether some literal of c has its negation, z apart, in d.
+// Whether some literal of c has its negation, z apart, in d. (This and the next two are a line each, over three definitions.)
 fn clashes(c: &[u16], d: &[u16], z: u16) -> bool
     ensures { result ≡ any (opposed d.now z) c.now }
 {
@@ -80,7 +93,7 @@ pub fn hinders(c: &[u16], l: u16, d: &[u16]) -> bool
     contains(d, z) && !(clashes(c, d, z) || clashes_within(d, z) || is_tautology(c))
 }
 
-// The same where neither clause is a tautology: then only a literal of c and one of d can clash.
+// The same where neither clause is a tautology: then only a literal of c and one of d can clash, which is the usual case and the fastest.
 #[tactic(auto, using(crate::proofs::Joins::resists_plain))]
 pub fn hinders_plain(c: &[u16], l: u16, d: &[u16]) -> bool
     requires c_plain { tautology c.now ≡ false }

@@ -1,5 +1,5 @@
 -- What the reader's inner functions answer: fields, lines beside the parts of the bytes remembered, the scan and the table it leads to. Assumes nothing.
-use Rattle.std.specs.Prelude.{◌≡◌, Bool, true, not, ◌&&◌, cond, List, [], ◌∷◌, ℕ, suc, ◌*◌, ◌≤◌, ◌<◌, eqb, leb, ltb, length, get_or, take, drop, Option, Some, None, is_some, Result, Ok, Err}
+use Rattle.std.specs.Prelude.{◌≡◌, Bool, true, not, ◌&&◌, cond, List, [], ◌∷◌, ℕ, suc, ◌+◌, ◌*◌, ◌≤◌, ◌<◌, eqb, leb, ltb, length, get_or, take, drop, Option, Some, None, is_some, Result, Ok, Err}
 use Rattle.std.proofs.Math.Option.{Option as Tests}
 use denote.Ref.{Bor}
 use Rattle.rules.specs.Walk.{every}
@@ -15,12 +15,13 @@ use Rattle.saved.specs.Bytes.{numbers_of}
 use Rattle.saved.specs.Field.{narrow, tag_of, value_of, whole_field}
 use Rattle.saved.specs.Form.{Head, Line, number_of, blocking_of}
 use Rattle.table.specs.Res.{on_ok, or_fault}
-use Rattle.saved.specs.Reading.{head_at, head_tests, line_length, line_limits, read_lines, literals_of, entries_of}
+use Rattle.saved.specs.Reading.{head_at, head_tests, line_length, line_limits, read_lines, literals_of, entries_of, all_literals, all_offsets}
 use Rattle.saved.specs.Saved.{Loaded, loaded, or_kept}
 use Rattle.saved_read.specs.declared.known.Head.{Head as HeadRead}
 use Rattle.saved_read.specs.declared.Kind.{Kind}
 use Rattle.saved_read.specs.declared.Kind.TheVariants.{Live, Removed}
 use Rattle.saved_read.specs.declared.Front.{Front}
+use Rattle.saved_read.specs.declared.Counts.{Counts}
 
 -- what the value that is handed out holds
 abbrev pub value_read : Result (Bor (List ℕ)) Refusal → Result (List ℕ) Refusal
@@ -134,6 +135,18 @@ pub record AllRead (b : List ℕ) (h : Head) (parts : Parts) (words : List ℕ) 
 abbrev pub Scanned : List ℕ → Head → Parts → List ℕ → Result ℕ Refusal → Type 0
 Scanned b h parts words (Err x) = read_lines base narrow h h.clauses [] 0 11 (drop 11 b) ≡ Err x
 Scanned b h parts words (Ok c) = AllRead b h parts words c
+
+-- the table of all lines lies at the fronts of two arrays, and the stack at that of a third
+pub record TableRead (b : List ℕ) (h : Head) (words rows ends : List ℕ) (n : Counts) : Type 0 where
+  pub parts : Parts
+  pub read : AllRead b h parts words n.removals
+  pub count : n.literals ≡ length (all_literals (row_of parts) h.clauses)
+  pub rows_hold : take n.literals rows ≡ all_literals (row_of parts) h.clauses
+  pub ends_hold : take (h.clauses + 1) ends ≡ all_offsets (row_of parts) h.clauses
+
+abbrev pub Filled : List ℕ → Head → List ℕ → List ℕ → List ℕ → Result Counts Refusal → Type 0
+Filled b h words rows ends (Err x) = read_lines base narrow h h.clauses [] 0 11 (drop 11 b) ≡ Err x
+Filled b h words rows ends (Ok n) = TableRead b h words rows ends n
 
 -- the answer ------------------------------------------------------------------
 -- what a table and its stack come to: 6 at the first entry whose literal does not block, or both at the fronts of the lent buffers

@@ -3,7 +3,7 @@
 // as C lends them, and what is read on the way stands in arrays of fixed size, since there is no heap.
 #![tactic(auto)]
 
-ghost use Rattle.std.specs.Prelude.{◌≡◌, ◌+◌, ◌*◌, ◌≤◌, ◌<◌, length, get_or, drop};
+ghost use Rattle.std.specs.Prelude.{◌≡◌, ◌+◌, ◌*◌, ◌≤◌, ◌<◌, length, get_or, drop, Ok};
 ghost use Rattle.rules.specs.Walk.{every};
 ghost use Rattle.table.specs.Limits.{base};
 ghost use Rattle.table.specs.Table.{coded, distinct};
@@ -15,7 +15,7 @@ ghost use Rattle.saved.specs.Field.{narrow};
 ghost use Rattle.saved.specs.Reading.{end_tests, all_literals, all_offsets};
 ghost use Rattle.saved.specs.Saved.{loaded, reading};
 ghost use Rattle.saved_read.specs.Restored.{restored};
-ghost use Rattle.saved_read.specs.Inner.{head_as, heads_of, kind_at, value_at, value_read, head_read, header_of, sound_on, line_on, pushed_on, count_on, row_of, handed_out, Clear, Scanned};
+ghost use Rattle.saved_read.specs.Inner.{head_as, heads_of, kind_at, value_at, value_read, head_read, header_of, sound_on, line_on, pushed_on, count_on, row_of, handed_out, Clear, Scanned, Filled};
 
 mod known; // known.rt: what is known of a form as far as it was read
 
@@ -78,6 +78,13 @@ struct Front {
     block: Option<u16>,
 }
 
+// How many literals a form's table has, and how many entries its stack.
+#[derive(Clone, Copy, Debug)]
+struct Counts {
+    literals: usize,
+    removals: usize,
+}
+
 // The number that has i numbers before it.
 fn number_at(v: &[u8], i: usize) -> u16
     requires { 2 * i + 1 < length v.now }
@@ -86,7 +93,7 @@ fn number_at(v: &[u8], i: usize) -> u16
     u16::from_be_bytes([v[2 * i], v[2 * i + 1]])
 }
 
-// The numbers of v, laid over the front of `out`: how many there are.
+// The numbers of v, laid over the front of `out`: how many there are. They are taken by place, as `numbers_of` has them; `chunks_exact` and `zip` are no plainer.
 fn copy_numbers(v: &[u8], out: &mut [u16]) -> usize
     requires { length (numbers_of 2 v.now) ≤ length out.old }
     ensures count { result ≡ length (numbers_of 2 v.now) }
@@ -99,7 +106,7 @@ fn copy_numbers(v: &[u8], out: &mut [u16]) -> usize
     count
 }
 
-// The value of the field at `at`, which is all there and has the tag.
+// The value of the field at `at`, which is all there and has the tag: a byte of document 01's form.
 fn value_at(bytes: &[u8], at: usize, tag: u8) -> Result<&[u8], Refusal>
     requires { at ≤ length bytes.now }
     ensures { value_read result ≡ value_at bytes.now at tag }
@@ -305,6 +312,28 @@ fn fill_rows(parts: &[Option<&[u8]>], m: usize, lits: &mut [u16], offs: &mut [u3
     at
 }
 
+// The table and the stack of a form that is read: rows and ends hold the table, words the stack. It is a function of its own, and not inlined, so that the
+// parts are gone from the machine's stack before the rest is called.
+#[inline(never)]
+fn read_rows(
+    bytes: &[u8],
+    head: &Head,
+    rows: &mut [u16],
+    ends: &mut [u32],
+    words: &mut [u32],
+) -> Result<Counts, Refusal>
+    requires headed { Ok (head_as head.now) ≡ header_of bytes.now }
+    requires rows { length rows.old ≡ 16_000 }
+    requires ends { 4_000 < length ends.old }
+    requires words { 8_000 ≤ length words.old }
+    ensures { Filled bytes.now (head_as head.now) words.new rows.new ends.new result }
+{
+    let mut parts = [None; 4001];
+    let removals = scan_lines(bytes, head, &mut parts, words)?;
+    let literals = fill_rows(&parts, head.clauses, rows, ends);
+    Ok(Counts { literals, removals })
+}
+
 // A table and its stack handed out, unless an entry's literal does not block.
 fn hand_out(
     opened: &Opened,
@@ -318,9 +347,7 @@ fn hand_out(
     ensures { loaded (restored result) lits.new offs.new stack.new ≡ handed_out (lent opened.now.book.table) opened.now.stack.words.now opened.now.stack.count lits.old offs.old stack.old }
 {
     let mut live = [false; 4001];
-    if let Some(place) = opened.first_unblocked(&mut live) {
-        return Err(Refusal::NotBlocking(place));
-    }
+    opened.check_entries(&mut live)?;
     let t = opened.book.table;
     let removals = opened.stack.count;
     lits[..t.lits.len()].copy_from_slice(t.lits);
@@ -346,21 +373,19 @@ pub fn read_saved(
         return Err(Refusal::NoRoom);
     }
     let head = read_head(bytes)?;
-    let mut parts = [None; 4001];
-    let mut words = [0u32; 8000];
-    let removals = scan_lines(bytes, &head, &mut parts, &mut words)?;
     let mut rows = [0u16; 16000];
     let mut ends = [0u32; 4001];
-    let total = fill_rows(&parts, head.clauses, &mut rows, &mut ends);
+    let mut words = [0u32; 8000];
+    let read = read_rows(bytes, &head, &mut rows, &mut ends, &mut words)?;
     let table = Table {
         variables: head.variables,
         clauses: head.clauses,
-        lits: &rows[..total],
+        lits: &rows[..read.literals],
         offs: &ends[..head.clauses + 1],
     };
     let stored = Stack {
         words: &words,
-        count: removals,
+        count: read.removals,
     };
     let opened = Opened {
         book: SoundTable { table },

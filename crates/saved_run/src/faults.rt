@@ -1,12 +1,10 @@
 // Every fault of a form and its place: K2 with bytes changed, cut off or added.
 use crate::form::K2;
-use anyhow::Context;
 use forms::{Kept, reads, reads_into};
 use lines::Case;
 use say::lent::Buffers;
 use std::alloc::{AllocError, Global};
 use std::io;
-use std::str::FromStr;
 use table::Refusal;
 
 // A change of a form, such as 3=07.
@@ -17,39 +15,40 @@ struct Change {
 }
 
 impl Change {
-    // Puts the byte at its place, or behind a form that ends before it.
+    // The change that a text says.
+    fn of(text: &[u8]) -> Change {
+        Change {
+            place: lines::number(lines::piece(text, b'=', 0)),
+            byte: lines::hex_byte(lines::piece(text, b'=', 1)),
+        }
+    }
+
+    // Puts the byte at its place. The places 63 and 64 add a byte to a form of 63, 64 without a byte of its own; behind them is no place.
     fn make_in(self, form: &mut Vec<u8>) -> Result<(), AllocError> {
-        match form.get_mut(self.place) {
-            Some(byte) => *byte = self.byte,
-            None => form.push(self.byte)?,
+        if self.place == 63 || self.place == 64 {
+            form.resize(64, 0)?;
+        }
+        if let Some(byte) = form.get_mut(self.place) {
+            *byte = self.byte;
         }
         Ok(())
     }
 }
 
-impl FromStr for Change {
-    type Err = anyhow::Error;
-
-    fn from_str(s: &str) -> anyhow::Result<Change> {
-        let (place, byte) = s.split_once('=').context("a change has no byte")?;
-        Ok(Change {
-            place: place.parse()?,
-            byte: u8::from_str_radix(byte, 16)?,
-        })
-    }
-}
-
 // Reads K2 with the changes of a line.
-pub fn reads_case(rt: &impl Print, alloc: Global, case: Case<'_>) -> anyhow::Result<()> {
+pub fn reads_case(rt: &impl Print, alloc: Global, case: Case<'_>) -> io::Result<()> {
     let mut form = Vec::from_slice(alloc, &K2)?;
-    for text in case.field(2).split_ascii_whitespace() {
-        text.parse::<Change>()?.make_in(&mut form)?;
+    for text in case
+        .field(2)
+        .split(|b| *b == b' ')
+        .filter(|text| !text.is_empty())
+    {
+        Change::of(text).make_in(&mut form)?;
     }
-    reads(rt, alloc, case.field(0), &form)?;
-    Ok(())
+    reads(rt, alloc, case.field(0), &form)
 }
 
-// What came of a form: its refusal, if it was refused, and whether the buffers are as they came.
+// What came of a form: its refusal, if it was refused, and whether the buffers are as they came. Neither follows from the other here: both are printed.
 #[derive(Clone, Copy, Debug, PartialEq, Eq)]
 struct Fault {
     refusal: Option<Refusal>,
@@ -96,21 +95,21 @@ pub fn short_buffers(rt: &impl Print, alloc: Global) -> io::Result<()> {
         let mut short = Buffers::new(alloc, 15999, 4001, 8000)?;
         reads_into(
             rt,
-            &format!(in alloc; "15999 literals{end}")?,
+            format!(in alloc; "15999 literals{end}")?.as_bytes(),
             form,
             &mut short,
         )?;
         let mut short = Buffers::new(alloc, 16000, 4000, 8000)?;
         reads_into(
             rt,
-            &format!(in alloc; "4000 offsets{end}")?,
+            format!(in alloc; "4000 offsets{end}")?.as_bytes(),
             form,
             &mut short,
         )?;
         let mut short = Buffers::new(alloc, 16000, 4001, 7999)?;
         reads_into(
             rt,
-            &format!(in alloc; "7999 stack words{end}")?,
+            format!(in alloc; "7999 stack words{end}")?.as_bytes(),
             form,
             &mut short,
         )?;

@@ -5,14 +5,14 @@ use lines::Case;
 use saved_write::write_saved;
 use say::lent::{all_are, cut};
 use std::alloc::Global;
-use std::io;
+use std::{array, io};
 use table::{Stack, Table};
 
 // Writes K1's table, with offsets and a stack of its own, into an output of sevens, and prints a line with what came: the form's length, and whether
 // the rest is as it came.
 fn writes(
     rt: &impl Print,
-    label: &str,
+    label: &[u8],
     offs: &[u32],
     stack: &Stack<'_>,
     out: &mut [u8],
@@ -23,12 +23,13 @@ fn writes(
         lits: &[2, 8, 9, 10, 3, 4, 5, 6, 7, 2],
         offs,
     };
+    say::label(rt, label)?;
     match write_saved(&table, stack, out) {
         Ok(len) => {
             let (_, behind) = cut(out, len);
-            println!(rt; "{label}: writes {len} bytes{}", Kept(all_are(behind, &7)))
+            println!(rt; "writes {len} bytes{}", Kept(all_are(behind, &7)))
         }
-        Err(refusal) => println!(rt; "{label}: {refusal}{}", Kept(all_are(out, &7))),
+        Err(refusal) => println!(rt; "{refusal}{}", Kept(all_are(out, &7))),
     }
 }
 
@@ -39,21 +40,22 @@ pub fn k2(rt: &impl Print, alloc: Global) -> io::Result<()> {
         count: 2,
     };
     let mut out = [7; 80];
-    writes(rt, "K2", &[0, 2, 4, 6, 8, 10], &stack, &mut out)?;
+    writes(rt, b"K2", &[0, 2, 4, 6, 8, 10], &stack, &mut out)?;
     let (form, _) = cut(&out, 63);
     println!(rt; "the bytes:{}", Written(form))?;
-    forms::reads(rt, alloc, "K2", &K2)
+    forms::reads(rt, alloc, b"K2", &K2)
 }
 
-// Writes what a line has, into an output with as much room as it says.
-pub fn writes_case(rt: &impl Print, alloc: Global, case: Case<'_>) -> anyhow::Result<()> {
-    let offs = case.items::<u32>(alloc, 2)?;
-    let words = case.items::<u32>(alloc, 3)?;
+// Writes what a line has, into an output with as much room as it says, if that is no more than 80 bytes.
+pub fn writes_case(rt: &impl Print, alloc: Global, case: Case<'_>) -> io::Result<()> {
+    let offs: [u32; 6] = array::from_fn(|i| case.item(2, i));
+    let words = case.items::<u32>(alloc, 3, 10)?;
     let stack = Stack {
         words: &words,
-        count: case.item(4, 0)?,
+        count: case.item(4, 0),
     };
-    let mut out = vec![in alloc; 7; case.item::<usize>(4, 1)?]?;
-    writes(rt, case.field(0), &offs, &stack, &mut out)?;
-    Ok(())
+    match [7; 80].get_mut(..case.item::<usize>(4, 1)) {
+        Some(out) => writes(rt, case.field(0), &offs, &stack, out),
+        None => Ok(()),
+    }
 }

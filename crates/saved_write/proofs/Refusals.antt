@@ -8,18 +8,15 @@ use native.Mathlib.Omega.{arith}
 use borrow.Author.Tests.{le-leb, lt-leb}
 use lib.Dec.{leb}
 use lib.ListN.{length}
-use Rattle.std.specs.Prelude.{Some, None}
 use Rattle.table.specs.Limits.{base}
 use Rattle.table.specs.Table.{Table, offset}
 use Rattle.table.specs.Stack.{entries, lay}
 use Rattle.table.specs.Answer.{answered, refused, paper, test, test_at, ◌then◌, outcome, decided}
 use Rattle.table.specs.declared.Refusal.{Refusal}
 use Rattle.table.specs.declared.Refusal.TheVariants.{NoRoom, NotBlocking}
-use Rattle.table.proofs.Answers.{test_found}
-use Rattle.table.proofs.Found.{found_none}
 use Rattle.table.proofs.Stacks.{length_entries}
-use Rattle.stack.specs.Tests.{bad_entry, lent_tests, unblocked_entry}
-use Rattle.stack.specs.Inner.{Passed, Checked}
+use Rattle.stack.specs.Tests.{bad_entry, lent_tests, unblocked_entry, blocking_tests}
+use Rattle.stack.specs.Inner.{Passed, Blocking}
 use Rattle.stack.proofs.Refusals.{passed_lent}
 use Rattle.saved.specs.Field.{narrow}
 use Rattle.saved.specs.Form.{encode}
@@ -47,19 +44,19 @@ module _ (t : Table) (ws : List ℕ) (c : ℕ) (out : List ℕ) where
     unfolding writing
     left = rw (passed_lent t ws c p)
 
-    pub writing_unblocked : {marks : List Bool} (place : ℕ) → Checked t ws c marks (Some place) → outcome (refused 6 place) out ≡ writing base narrow t ws c out
-    writing_unblocked place k = sym (left ∙ rw (test_found _ NotBlocking k.unblocked))
+    pub writing_unblocked : (r : Refusal) → blocking_tests t ws c ≡ some r → outcome (paper r) out ≡ writing base narrow t ws c out
+    writing_unblocked r h = sym (left ∙ rw h)
 
-    module _ {marks : List Bool} (k : Checked t ws c marks None) {len : ℕ} (e : len ≡ 14 + 5 * t.clauses + 2 * c + 2 * offset t t.clauses) where
+    module _ {marks : List Bool} (k : Blocking t ws c marks) {len : ℕ} (e : len ≡ 14 + 5 * t.clauses + 2 * c + 2 * offset t t.clauses) where
       exact : len ≡ length (encode narrow t (entries ws c))
       exact = e ∙ sym (counted_length t ws c p)
 
       pub writing_cramped : length out < len → outcome (refused 3 0) out ≡ writing base narrow t ws c out
-      writing_cramped l = sym (left ∙ rw (found_none _ k.unblocked, lt-leb _ _ (rw exact at l)))
+      writing_cramped l = sym (left ∙ rw (k.none_unblocked, lt-leb _ _ (rw exact at l)))
 
       pub room_enough : len ≤ length out → length (encode narrow t (entries ws c)) ≤ length out
       room_enough l = rw exact at l
 
       pub writing_done : len ≤ length out → {new : List ℕ} → new ≡ lay (encode narrow t (entries ws c)) out
           → outcome (answered (len ∷ [])) new ≡ writing base narrow t ws c out
-      writing_done l n = sym (left ∙ rw (found_none _ k.unblocked, le-leb _ _ (room_enough l), n, exact))
+      writing_done l n = sym (left ∙ rw (k.none_unblocked, le-leb _ _ (room_enough l), n, exact))

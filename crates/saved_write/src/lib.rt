@@ -37,7 +37,7 @@ fn put_numbers(out: &mut [u8], xs: &[u16])
     }
 }
 
-// A field, whose value is the numbers of `front` and then those of `lits`, and how many bytes it has.
+// A field, whose value is the numbers of `front` and then those of `lits`, and how many bytes it has. The tag is a byte of document 01's form.
 fn put_field(out: &mut [u8], tag: u8, front: &[u16], lits: &[u16]) -> usize
     requires few { (length front.now ≤ 4) × (length lits.now ≤ 1000) }
     requires room { 3 + 2 * (length front.now + length lits.now) ≤ length out.old }
@@ -128,9 +128,7 @@ fn put_form(out: &mut [u8], opened: &Opened, live: &Marks)
 fn write_checked(opened: &Opened, live: &mut Marks, out: &mut [u8]) -> Result<usize, Refusal>
     ensures { outcome (written result) out.new ≡ writing base narrow (lent opened.now.book.table) opened.now.stack.words.now opened.now.stack.count out.old }
 {
-    if let Some(place) = opened.first_unblocked(live) {
-        return Err(Refusal::NotBlocking(place));
-    }
+    opened.check_entries(live)?;
     let t = &opened.book.table;
     let literals = t.offs[t.clauses] as usize;
     let len = 14 + 5 * t.clauses + 2 * opened.stack.count + 2 * literals;

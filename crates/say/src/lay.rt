@@ -13,10 +13,11 @@ pub fn code(i: usize) -> u16
 
 // So many codes, starting anew after each `width` of them.
 pub fn codes(alloc: Global, many: usize, width: usize) -> Result<Vec<u16>, AllocError>
-    requires { 0 < width }
     ensures { IfOk result (λ codes. vec_len codes ≡ many) }
 {
-    (0..many).map(|i| code(i % width)).collect(alloc)
+    (0..many)
+        .map(|i| code(i.checked_rem(width).unwrap_or(0)))
+        .collect(alloc)
 }
 
 // The offsets of so many clauses of `step` literals.

@@ -12,7 +12,7 @@ pub fn all_are<T: PartialEq>(items: &[T], wanted: &T) -> bool
     items.iter().all(|x| x == wanted)
 }
 
-// The offset behind the last clause: how many literals the clauses have.
+// The offset behind the last clause: how many literals the clauses have; 0 where there is none, as the definition `offset` has it.
 pub fn total(table: &Table<'_>) -> usize
     ensures { result ≡ get_or table.now.offs.now table.now.clauses 0 }
 {
@@ -35,7 +35,7 @@ pub struct Buffers {
     pub stack: Vec<u32>,
 }
 
-// What a reader leaves in its buffers: the table, the stack's words, and whether all that is behind them is as it came.
+// What a reader leaves in its buffers: the table, the stack's words, and whether all that is behind them is as it came, which is printed beside them.
 #[derive(Clone, Copy, Debug)]
 pub struct Left<'a> {
     pub table: Table<'a>,

@@ -6,8 +6,14 @@ pub mod lent; // lent.rt: lent buffers of sevens, and what a reader leaves in th
 
 ghost use Rattle.std.specs.Prelude.{◌↔◌, ◌≤◌, IsTrue, length};
 
-use std::fmt;
+use std::{fmt, io};
 use table::Table;
+
+// Prints what a line is about, and a colon; a label's bytes need not be text.
+pub fn label(rt: &impl Print, label: &[u8]) -> io::Result<()> {
+    rt.write_all(label)?;
+    print!(rt; ": ")
+}
 
 // Items, each after a blank.
 #[derive(Clone, Copy, Debug)]

@@ -42,7 +42,7 @@ impl fmt::Display for Rule<'_> {
 }
 
 // Why there is no shrunk book, or not all of it.
-#[derive(Drop)]
+#[derive(Clone, Copy, Debug, PartialEq, Eq)]
 enum Failure {
     Refused(Refusal),
     Unwritten,

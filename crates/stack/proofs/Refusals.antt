@@ -15,17 +15,17 @@ use Rattle.table.specs.declared.Table.{Table as LentTable}
 use Rattle.table.specs.declared.Stack.{Stack as LentStack}
 use Rattle.table.specs.Table.{Table, sound}
 use Rattle.table.specs.Stack.{entries}
-use Rattle.table.specs.Answer.{verdict}
+use Rattle.table.specs.Answer.{answered, verdict, unless}
 use Rattle.table.specs.declared.Refusal.{Refusal}
-use Rattle.table.specs.declared.Refusal.TheVariants.{NoRoom, BadTable, BadStack, NotBlocking}
-use Rattle.std.specs.Prelude.{Ok, Err, Some, None}
+use Rattle.table.specs.declared.Refusal.TheVariants.{NoRoom, BadTable, BadStack}
+use Rattle.std.specs.Prelude.{[], Result, Ok, Err, Some, None, MatchResult}
 use Rattle.table.proofs.Found.{found_none}
 use Rattle.table.proofs.Soundness.{sound_of}
 use Rattle.table.proofs.Answers.{then_none, test_none, test_at_none, test_found}
 use Rattle.index.specs.Index.{live_of, OwnMarks}
 use Rattle.index.proofs.Marks.{live_within}
-use Rattle.stack.specs.Tests.{bad_entry, lent_tests, unblocked_entry, live_after, check}
-use Rattle.stack.specs.Inner.{Lent, Read, Checked, Passed, Opens, Open}
+use Rattle.stack.specs.Tests.{bad_entry, lent_tests, blocking_tests, live_after, check}
+use Rattle.stack.specs.Inner.{Lent, Read, Blocking, Passed, Opens, Open}
 
 -- marks for 4,000 clauses are enough for a sound table
 pub marks_room : (t : Table) → sound base t ≡ true → {len : ℕ} → 4000 < len → t.clauses < len
@@ -108,11 +108,11 @@ module _ (t : Table) (ws : List ℕ) (c : ℕ) where
   unfolding check
   check_refused r h = rw h
 
-  module _ (p : Passed t ws c) {marks : List Bool} where
-    pub check_unblocked : (entry : ℕ) → Checked t ws c marks (Some entry) → verdict (Err (NotBlocking entry)) ≡ check base t ws c
-    unfolding check
-    check_unblocked entry k = rw (passed_lent t ws c p, test_found _ NotBlocking k.unblocked)
+  check_left : Passed t ws c → unless (blocking_tests t ws c) (answered []) ≡ check base t ws c
+  unfolding check
+  check_left p = rw (passed_lent t ws c p)
 
-    pub check_passes : Checked t ws c marks None → verdict (Ok tt) ≡ check base t ws c
-    unfolding check
-    check_passes k = let z : unblocked_entry t ws c ≡ 0 = found_none _ k.unblocked in rw (passed_lent t ws c p, z)
+  pub check_told : Passed t ws c → (marks : List Bool) (v : Result Unit Refusal)
+      → MatchResult v (λ _. Blocking t ws c marks) (λ r. blocking_tests t ws c ≡ some r) → verdict v ≡ check base t ws c
+  check_told p marks (Ok x) k = rw k.none_unblocked at check_left p
+  check_told p marks (Err r) k = rw k at check_left p

@@ -29,6 +29,11 @@ pub record Checked (t : Table) (ws : List ℕ) (c : ℕ) (marks : List Bool) (r 
   pub unblocked : r ≡ found (unblocked_entry t ws c)
   pub live : r ≡ None → live_of marks ≡ live_after t ws c
 
+-- the test 6 passes: every entry's literal blocks, and what is live after the entries is marked
+pub record Blocking (t : Table) (ws : List ℕ) (c : ℕ) (marks : List Bool) : Type 0 where
+  pub none_unblocked : unblocked_entry t ws c ≡ 0
+  pub live : live_of marks ≡ live_after t ws c
+
 -- a table lent with a stack of c entries that passed the tests 4, 3 and 5
 pub record Passed (t : Table) (ws : List ℕ) (c : ℕ) : Type 0 where
   pub table_sound : sound base t ≡ true

@@ -7,8 +7,8 @@ ghost use Rattle.table.specs.Limits.{base};
 ghost use Rattle.table.specs.Lent.{lent};
 ghost use Rattle.table.specs.Answer.{verdict};
 ghost use Rattle.index.specs.Index.{live_of};
-ghost use Rattle.stack.specs.Tests.{entry_names, lent_tests, check};
-ghost use Rattle.stack.specs.Inner.{Lent, Read, Checked, Passed, Opens};
+ghost use Rattle.stack.specs.Tests.{entry_names, lent_tests, blocking_tests, check};
+ghost use Rattle.stack.specs.Inner.{Lent, Read, Checked, Blocking, Passed, Opens};
 
 use index::Index;
 use table::{Entry, Refusal, SoundTable, Stack, Table};
@@ -49,7 +49,8 @@ pub struct Opened<'t, 's> {
 }
 
 impl Opened<'_, '_> {
-    // The answer of `first_unblocked`, once the index is built and every clause is marked live. It goes through the entries as `bad_entry` does; one loop
+    // The number of the first entry, from 1, whose literal does not block its clause among those live at that time; where there is none, what is live after
+    // the entries is marked. The index is built, and every clause is marked live. It goes through the entries as `bad_entry` does; one loop
     // for both would need a closure that says what each asks of the marks, which is no plainer.
     fn unblocked_entry(&self, index: &Index, live: &mut [bool]) -> Option<usize>
         requires same { index.now.book ≡ self.now.book }
@@ -67,24 +68,27 @@ impl Opened<'_, '_> {
         None
     }
 
-    // The number of the first entry, from 1, whose literal does not block its clause among those live at that time; where there is none, what is live
-    // after the entries is marked.
-    pub fn first_unblocked(&self, live: &mut [bool]) -> Option<usize>
+    // The test 6: every entry's literal blocks its clause among those live at that time. Where it passes, what is live after the entries is marked.
+    pub fn check_entries(&self, live: &mut [bool]) -> Result<(), Refusal>
         requires { self.now.book.table.clauses < length live.old }
-        ensures { Checked (lent self.now.book.table) self.now.stack.words.now self.now.stack.count live.new result }
+        ensures { MatchResult result (λ _. Blocking (lent self.now.book.table) self.now.stack.words.now self.now.stack.count live.new)
+            (λ r. blocking_tests (lent self.now.book.table) self.now.stack.words.now self.now.stack.count ≡ some r) }
     {
         let mut heads = [0u16; 4002];
         let mut nexts = [0u16; 16000];
         let mut plain = [false; 4001];
         let index = Index::build(&self.book, &mut heads, &mut nexts, &mut plain);
         index::mark_all(self.book.table.clauses, live);
-        self.unblocked_entry(&index, live)
+        match self.unblocked_entry(&index, live) {
+            Some(entry) => Err(Refusal::NotBlocking(entry)),
+            None => Ok(()),
+        }
     }
 }
 
 // The tests that come first in every call on a table with a stack, in their order: the table is sound, the stack has room, so has any other buffer
 // of the call, as `room` says, and the count and the entries are good. Where all pass, what is live after the entries is marked. The marks are lent: an
-// `Opened` that held them would be copied with their 4,001 bytes.
+// `Opened` that held them would be copied with their 4,001 bytes. `room` is what the caller found of its own buffer, and is told here since 3 comes before 5.
 pub fn open_stack<'t, 's>(
     t: &Table<'t>,
     stack: &Stack<'s>,
@@ -117,8 +121,5 @@ pub fn check_stack(t: &Table, stack: &Stack) -> Result<(), Refusal>
 {
     let mut live = [false; 4001];
     let opened = open_stack(t, stack, true, &mut live)?;
-    match opened.first_unblocked(&mut live) {
-        Some(entry) => Err(Refusal::NotBlocking(entry)),
-        None => Ok(()),
-    }
+    opened.check_entries(&mut live)
 }

@@ -1,5 +1,6 @@
 // The reader of DIMACS CNF text: comment lines, the problem line, the clauses (document 01, 'The text'). It goes through the clauses twice, first to find
-// a fault, then to fill the lent buffers, so that a refused text changes no cell. The two buffers stay apart, as C lends them.
+// a fault, then to fill the lent buffers, so that a refused text changes no cell. The two buffers stay apart, as C lends them to `read_text`; a struct of them
+// would be made for three private calls.
 #![tactic(auto)]
 
 ghost use Rattle.std.specs.Prelude.{◌≡◌, ◌≢◌, ◌==◌, false, ◌+◌, ◌≤◌, ◌<◌, length, drop, position, unwrap_or, MatchResult};
@@ -168,7 +169,8 @@ fn read_problem(text: &[u8], start: usize, end: usize) -> Result<Counts, Refusal
     }
 }
 
-// The code that a token says, 0 for the 0 that ends a clause, or none where it is no number or its variable is above n.
+// The code that a token says, 0 for the 0 that ends a clause, or none where it is no number or its variable is above n. The definition has the 0 and, for
+// none, 1, and the contract says that this is all that they mean.
 fn code_of(token: &[u8], n: usize) -> Option<u16>
     requires { n ≤ 2000 }
     ensures code { unwrap_or result 1 ≡ code_of n (number token.now) }

@@ -17,24 +17,23 @@ fn whether_kept(is_kept: bool) -> &'static str {
 // Reads a text into lent buffers, and prints a line with what came.
 pub fn reads_into(
     rt: &impl Print,
-    label: &str,
+    label: &[u8],
     text: &[u8],
     buffers: &mut Buffers,
 ) -> io::Result<()> {
+    say::label(rt, label)?;
     match read_text(text, &mut buffers.lits, &mut buffers.offs) {
         Ok(Counts { variables, clauses }) => {
             let left = buffers.left(variables, clauses, 0);
             let contents = Contents(&left.table);
             let rest = whether_kept(left.is_rest_kept);
-            println!(rt;
-                "{label}: reads {variables} variables, {clauses} clauses{contents}; {rest}"
-            )
+            println!(rt; "reads {variables} variables, {clauses} clauses{contents}; {rest}")
         }
-        Err(refusal) => println!(rt; "{label}: {refusal}; {}", whether_kept(buffers.are_kept())),
+        Err(refusal) => println!(rt; "{refusal}; {}", whether_kept(buffers.are_kept())),
     }
 }
 
 // Reads a text into buffers with a cell too many.
-pub fn reads(rt: &impl Print, alloc: Global, label: &str, text: &[u8]) -> io::Result<()> {
+pub fn reads(rt: &impl Print, alloc: Global, label: &[u8], text: &[u8]) -> io::Result<()> {
     reads_into(rt, label, text, &mut Buffers::new(alloc, 16001, 4002, 0)?)
 }

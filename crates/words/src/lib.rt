@@ -80,7 +80,7 @@ fn gaps_before(rest: &[u8], section: Section) -> Option<usize>
     rest.iter().position(|b| !is_gap(*b, section))
 }
 
-// How many bytes stand before the first gap.
+// How many bytes stand before the first gap: the same with the test the other way round, a line each.
 fn bytes_before(rest: &[u8], section: Section) -> Option<usize>
     ensures { result ≡ position (λ b. is_gap section (class_of b)) rest.now }
 {
