@@ -15,29 +15,42 @@ pub fn negated(l: u16) -> u16
     if l % 2 == 0 { l + 1 } else { l - 1 }
 }
 
-// Whether a part of a clause, of at most 64 literals, holds the literal. It goes to the end whatever it meets and counts in 16 bits, so that the machine
-// compares many literals at once.
-fn part_contains(part: &[u16], l: u16) -> bool
-    requires { length part.now ≤ 64 }
-    ensures { result ≡ mem l part.now }
+// Whether a part of a clause, of at most 64 literals, holds the literal. It goes to the end whatever it meets, so that the machine compares many
+// literals at once. This loop and that of `contains` stay as they are: with `for` over the part's literals, over its places or over `chunks(64)` elimination
+// took up to twice as long, 1.2 to 1.5 times the same algorithm in Rust.
+fn part_contains(c: &[u16], l: u16) -> bool
+    requires { length c.now ≤ 64 }
+    ensures { result ≡ mem l c.now }
 {
-    let mut many = 0;
-    for i in 0..part.len() {
-        many += u16::from(part[i] == l);
+    let mut many = 0u16;
+    let mut i = 0;
+    while i < c.len() {
+        many += u16::from(c[i] == l);
+        i += 1;
     }
     0 < many
 }
 
-// Whether the clause holds the literal.
+// Whether some literal of the clause is the literal. It stops at the first.
+#[tactic(auto, unfolding(crate::specs::Clause::mem))]
+fn walk_contains(c: &[u16], l: u16) -> bool
+    ensures { result ≡ mem l c.now }
+{
+    c.iter().any(|x| l == *x)
+}
+
+// Whether the clause holds the literal: parts of 64 literals first, and then the rest.
 pub fn contains(c: &[u16], l: u16) -> bool
     ensures { result ≡ mem l c.now }
 {
-    for part in c.chunks(64) {
-        if part_contains(part, l) {
+    let mut from = 0;
+    while 64 <= c.len() - from {
+        if part_contains(&c[from..from + 64], l) {
             return true;
         }
+        from += 64;
     }
-    false
+    walk_contains(&c[from..], l)
 }
 
 // Whether the clause holds the literal of a stack's word, which may be no code at all.
