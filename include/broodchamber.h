@@ -1,8 +1,8 @@
 /* Broodchamber for C: the doors of the library.
  *
  * `make install PREFIX=dir` puts this header, libbroodchamber.a and broodchamber.pc there; pkg-config says what a compiler needs of them. The functions
- * keep nothing between two calls, and may be called from several threads at once on different buffers. They take no memory but the machine's stack: 70 KiB
- * as measured, bc_read_saved 190 (docs/BENCHMARKS.md).
+ * keep nothing between two calls, and may be called from several threads at once on different buffers. They take no memory but the machine's stack: 62 KiB
+ * as measured, bc_read_saved 170 (docs/BENCHMARKS.md).
  *
  * A table is a rule book in memory: the counts n of options and m of rules, the literals of all rules one behind the other (16 bits each), and the
  * offsets at which the rules start and end (32 bits each, m + 1 of them, the first 0). Option v is the code 2v, its negation 2v + 1. Rule k, counted

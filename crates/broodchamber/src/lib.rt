@@ -36,7 +36,7 @@ fn made<F: FnMut() -> Answer>(answer: &mut [usize], call: &mut F) -> bool
 }
 
 // The table that is lent.
-fn table<'a>(n: usize, m: usize, lits: &'a [u16], offs: &'a [u32]) -> Table<'a>
+fn table<'a>(n: usize, m: usize, lits: &'a [u16], offs: &'a [u32]) -> Table<'a, 'a>
     ensures { lent result ≡ table n m lits.now offs.now }
 {
     Table {

@@ -1,18 +1,19 @@
 -- Marks of the live clauses. Assumes nothing.
-use mathlib.Core.Path.{◌≡◌, sym, ◌∙◌, fun_ext}
-use mathlib.Core.Bool.{Bool, true, false}
+use mathlib.Core.Path.{◌≡◌, sym, ap, ◌∙◌, fun_ext}
+use mathlib.Core.Bool.{Bool, true, false, ◌&&◌}
 use mathlib.Core.List.{List, []}
-use mathlib.Core.Logic.{by_cases}
+use mathlib.Core.Logic.{◌≢◌, by_cases}
 use Prim.Native.Nat.{ℕ, ◌+◌, ◌≤◌, ◌<◌}
 use native.Mathlib.Decide.{dec_lt}
 use native.Mathlib.Omega.{arith}
-use borrow.Author.Tests.{lt-leb}
+use Rattle.std.proofs.lemmas.List.{get_or-replicate, length-replicate}
+use Rattle.std.proofs.lemmas.Bool.Decides.{nat_tests}
 use lib.Dec.{leb}
-use lib.ListN.{length, set, get_or-eq_default}
+use lib.ListN.{length, get_or, set, replicate, get_or-eq_default}
 use lib.Seq.{get_or-set_same, get_or-set_other}
 use Rattle.rules.specs.Blocking.{literal}
 use Rattle.rules.specs.Book.{Book, one_to, less, Entry, after}
-use Rattle.rules.proofs.Logic.{by_eq, and_no}
+use Rattle.rules.proofs.Logic.{by_eq}
 use Rattle.rules.proofs.Laws.{all_within, after_in}
 use Rattle.rules.proofs.Sweeps.{less_other, less_same}
 use Rattle.index.specs.Index.{live_of}
@@ -33,18 +34,22 @@ live_within m ms s e k h =
     numbered : ℕ → Book
     numbered m = record { count = m; clause = λ k. [] }
 
--- the marks below k are those of the clauses 1 to m
-abbrev pub Marked : ℕ → List Bool → ℕ → Type 0
-Marked m ms k = (j : ℕ) → j < k → live_of ms j ≡ one_to m j
+-- where nothing is marked, none of the clauses is
+pub none_marked : (n : ℕ) → live_of (replicate n false) ≡ one_to 0
+unfolding live_of one_to
+none_marked n = fun_ext (λ j. by_cases (dec_lt j n)
+    (λ l. get_or-replicate n j false false l ∙ nothing j)
+    (λ g. get_or-eq_default (replicate n false) false (rw (length-replicate n false) (omega arith)) ∙ nothing j))
+  where
+    nothing : (j : ℕ) → false ≡ (leb 1 j && leb j 0)
+    nothing j = grind (arith, nat_tests)
 
 -- one mark more
-pub mark_more : (m : ℕ) (ms : List Bool) (k : ℕ) (b : Bool) → k < length ms → Marked m ms k → b ≡ one_to m k → Marked m (set ms k b) (k + 1)
-unfolding live_of
-mark_more m ms k b h s e j l =
-    by_eq j k (λ q. rw (q, get_or-set_same ms k b false h) e) (λ n. rw (get_or-set_other ms k j b false n) (s j (omega arith)))
-
-pub mark_end : (m : ℕ) (ms : List Bool) (k : ℕ) → m < length ms → length ms ≤ k → Marked m ms k → live_of ms ≡ one_to m
-mark_end m ms k h u s = fun_ext (λ j. by_cases (dec_lt j k) (λ l. s j l) (λ g. behind j (omega arith)))
+pub mark_more : (m : ℕ) (ms : List Bool) → m + 1 < length ms → live_of ms ≡ one_to m → live_of (set ms (m + 1) true) ≡ one_to (m + 1)
+unfolding live_of one_to
+mark_more m ms h e = fun_ext (λ j. by_eq j (m + 1)
+    (λ q. rw (q, get_or-set_same ms (m + 1) true false h) (grind (arith, nat_tests)))
+    (λ n. get_or-set_other ms (m + 1) j true false n ∙ here j n))
   where
-    behind : (j : ℕ) → length ms ≤ j → live_of ms j ≡ one_to m j
-    behind j l = unfold live_of one_to in rw (get_or-eq_default ms false l, lt-leb j m (omega arith)) (sym (and_no (leb 1 j)))
+    here : (j : ℕ) → j ≢ m + 1 → get_or ms j false ≡ (leb 1 j && leb j (m + 1))
+    here j n = let old : get_or ms j false ≡ (leb 1 j && leb j m) = ap (λ f. f j) e in old ∙ grind (arith, nat_tests)

@@ -24,8 +24,9 @@ pub fn mark_all(m: usize, live: &mut [bool])
     requires { m < length live.old }
     ensures { live_of live.new ≡ one_to m }
 {
-    for (k, mark) in live.iter_mut().enumerate() {
-        *mark = 1 <= k && k <= m;
+    live.fill(false);
+    for k in 0..m {
+        live[k + 1] = true;
     }
 }
 
@@ -74,7 +75,9 @@ fn clause_plain(n: usize, c: &[u16], k: u16, seen: &mut [u16]) -> bool
     true
 }
 
-// Marks the plain clauses of a sound table: those that are no tautologies. (`Table::clauses_sound` goes through the clauses too, but stops at the first.)
+// Marks the plain clauses of a sound table: those that are no tautologies. (`Table::clauses_sound` goes through the clauses too, but stops at the first.) It
+// is not inlined, so that its stamps are on the machine's stack neither beside those of the soundness test nor after the index is built.
+#[inline(never)]
 fn mark_plain(t: &SoundTable, plain: &mut [bool])
     requires room { t.now.table.clauses < length plain.old }
     ensures { Plain (lent t.now.table) plain.new }
@@ -97,8 +100,8 @@ fn linked(link: u16) -> Option<usize>
 // chains are clause numbers in arrays of fixed size, since there is no heap. The marks of the live clauses and a clause's number stay parameters, with clauses of
 // their own: both change from call to call, and a type for either would hold the table once more.
 #[derive(Clone, Copy, Debug)]
-pub struct Index<'t, 'a> {
-    pub book: SoundTable<'t>,
+pub struct Index<'l, 'o, 'a> {
+    pub book: SoundTable<'l, 'o>,
     pub heads: &'a [u16],
     pub nexts: &'a [u16],
     pub plain: &'a [bool],
@@ -106,15 +109,15 @@ pub struct Index<'t, 'a> {
     pub ghost plains: { Plain (lent book.table) plain.now },
 }
 
-impl<'t, 'a> Index<'t, 'a> {
+impl<'l, 'o, 'a> Index<'l, 'o, 'a> {
     // Builds the index of a sound table in buffers that hold zeros, and marks its plain clauses. Each caller has the three arrays of its own: there is no
     // heap, and a function that made them would hand 44,005 bytes over by a copy.
     pub fn build(
-        t: &SoundTable<'t>,
+        t: &SoundTable<'l, 'o>,
         heads: &'a mut [u16],
         nexts: &'a mut [u16],
         plain: &'a mut [bool],
-    ) -> Index<'t, 'a>
+    ) -> Index<'l, 'o, 'a>
         requires unlinked { (length heads.old ≡ 4002) × (length nexts.old ≡ 16000) × ((x : ℕ) → get_or heads.old x 0 ≡ 0) }
         requires room { t.now.table.clauses < length plain.old }
         ensures { result.book ≡ t.now }

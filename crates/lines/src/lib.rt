@@ -2,10 +2,10 @@
 // table has a meaning: what is missing is empty, and a byte that is no digit is a 0.
 #![tactic(auto)]
 
-ghost use Rattle.std.specs.Prelude.{◌≡◌, ◌≤◌, ◌+◌, ◌*◌, ◌%◌, ◌^◌, ◌<◌, IfOk, length, vec_len, ℕ};
+ghost use Rattle.std.specs.Prelude.{◌≡◌, ◌≤◌, ◌+◌, ◌*◌, ◌%◌, ◌^◌, ◌<◌, ◌==◌, ◌∷◌, [], if◌then◌else◌, length, map, take, ℕ};
 ghost use Rattle.lines.specs.Numbers.{digit as digit_of, longer as longer_of, byte_of, number_of, IsNumber};
+ghost use Rattle.lines.specs.Pieces.{piece_of, items_of};
 
-use std::alloc::{AllocError, Global};
 use std::io::Read;
 
 // Reads until the table is full or the input ends; what came before a failure counts. A loop by hand: std's read_to_end has its buffer on the heap,
@@ -26,7 +26,8 @@ pub fn read_table(input: &mut impl Read, table: &mut [u8]) -> usize
 
 // Piece i of a text that a byte parts, from 0; nothing, where there are fewer.
 pub fn piece(text: &[u8], by: u8, i: usize) -> &[u8]
-    ensures { length result.now ≤ length text.now }
+    ensures piece { result.now ≡ piece_of text.now by i }
+    ensures length { length result.now ≤ length text.now }
 {
     text.split(|b| *b == by).nth(i).unwrap_or(&[])
 }
@@ -113,6 +114,36 @@ impl Item for u8 {
     }
 }
 
+// The first item of a field, and what is behind the blank after it.
+fn parted(field: &[u8]) -> (&[u8], &[u8])
+    ensures { items_of field.now ≡ (if length result.0.now == 0 then [] else result.0.now ∷ items_of result.1.now) }
+{
+    match field.iter().position(|b| *b == b' ') {
+        Some(at) => (&field[..at], &field[at + 1..]),
+        None => (field, &[]),
+    }
+}
+
+// Lays a field's items at the front of a room, at most as many as there is room for: how many they are. What is left of the field is kept by hand:
+// beside a type parameter a `for` over the parts that `split` gives gets no proof.
+fn lay_items<T: Item>(field: &[u8], room: &mut [T]) -> usize
+    ensures many { result ≤ length room.new }
+    ensures laid { take result room.new ≡ take (length room.new) (map (λ s. T.cut (number_of s)) (items_of field.now)) }
+{
+    let mut left = field;
+    let mut len = 0;
+    for slot in room.iter_mut() {
+        let (item, behind) = parted(left);
+        if item.is_empty() {
+            break;
+        }
+        *slot = T::of(number(item));
+        len += 1;
+        left = behind;
+    }
+    len
+}
+
 // A line of the table.
 #[derive(Clone, Copy, Debug, PartialEq, Eq)]
 pub struct Case<'a> {
@@ -122,26 +153,18 @@ pub struct Case<'a> {
 impl<'a> Case<'a> {
     // Field i, from 0; nothing, where there are fewer.
     pub fn field(&self, i: usize) -> &'a [u8]
-        ensures { length result.now ≤ length self.now.line.now }
+        ensures field { result.now ≡ piece_of self.now.line.now 124 i }
+        ensures length { length result.now ≤ length self.now.line.now }
     {
         piece(self.line, b'|', i)
     }
 
-    // The items of a field up to an empty one, at most so many.
-    pub fn items<T: Item>(
-        &self,
-        alloc: Global,
-        field: usize,
-        most: usize,
-    ) -> Result<Vec<T>, AllocError>
-        ensures { IfOk result (λ v. vec_len v ≤ most) }
+    // The items of a field up to an empty one, at most as many as there is room for, laid at the front of the room: that front.
+    pub fn items<'b, T: Item>(&self, field: usize, room: &'b mut [T]) -> &'b mut [T]
+        ensures { result.now ≡ take (length room.old) (map (λ s. T.cut (number_of s)) (items_of (piece_of self.now.line.now 124 field))) }
     {
-        self.field(field)
-            .split(|b| *b == b' ')
-            .take_while(|item| !item.is_empty())
-            .take(most)
-            .map(|item| T::of(number(item)))
-            .collect(alloc)
+        let len = lay_items(self.field(field), room);
+        &mut room[..len]
     }
 
     // Item i of a field, from 0; the number 0, where there are fewer.
@@ -166,15 +189,12 @@ mod tests {
         assert_eq!(rt; case.field(0), b"a label".as_slice());
         assert!(rt; case.field(4).is_empty());
         assert_eq!(rt;
-            case.items::<u16>(rt.alloc(), 1, 10)?.as_slice(),
+            &*case.items::<u16>(1, &mut [7; 10]),
             [5, 10, 300].as_slice()
         );
-        assert_eq!(rt;
-            case.items::<u8>(rt.alloc(), 1, 10)?.as_slice(),
-            [5, 10, 44].as_slice()
-        );
-        assert_eq!(rt; case.items::<u8>(rt.alloc(), 1, 2)?.len(), 2);
-        assert!(rt; case.items::<u16>(rt.alloc(), 2, 10)?.is_empty());
+        assert_eq!(rt; &*case.items::<u8>(1, &mut [7; 10]), [5, 10, 44].as_slice());
+        assert_eq!(rt; case.items::<u8>(1, &mut [7; 2]).len(), 2);
+        assert!(rt; case.items::<u16>(2, &mut [7; 10]).is_empty());
         assert_eq!(rt; case.item::<usize>(3, 0), 7);
         assert_eq!(rt; case.item::<usize>(3, 1), 0);
         Ok(())
@@ -183,7 +203,7 @@ mod tests {
     #[test]
     fn an_empty_item_ends_the_list(rt: HostRuntime) -> Result<(), Fail> {
         let case = Case { line: b"1 2  3" };
-        assert_eq!(rt; case.items::<u32>(rt.alloc(), 0, 10)?.len(), 2);
+        assert_eq!(rt; case.items::<u32>(0, &mut [7; 10]).len(), 2);
         assert_eq!(rt; case.item::<u32>(0, 3), 3);
         Ok(())
     }

@@ -5,20 +5,19 @@ use crate::back::comes_back;
 use rebuild::rebuild;
 use removal::eliminate;
 use say::Items;
-use say::lent::cut;
-use std::alloc::Global;
-use std::{fmt, io};
+use say::lent::{Buffers, cut};
+use std::{array, fmt};
 use table::{Stack, Table};
 
 // Literal number i of the book, from 0. Clause 1 has the options 1 to 1,000; clause 2 says that 1,000 wants 1,001; the others lead round from 1 to 999
 // and back to 1, so that none of them can go.
-fn book_code(i: u16) -> u16 {
+fn book_code(i: usize) -> u16 {
     match i {
-        0..1000 => 2 * i + 2,
+        0..1000 => 2 * i as u16 + 2,
         1000 => 2001,
         1001 => 2002,
         _ => {
-            let v = (i - 1002) / 2 % 999;
+            let v = ((i - 1002) / 2 % 999) as u16;
             if i % 2 == 0 {
                 2 * v + 3
             } else {
@@ -29,10 +28,10 @@ fn book_code(i: u16) -> u16 {
 }
 
 // The offset behind clause k: 0, 1,000, and then 2 more each time.
-fn book_offset(k: u32) -> u32
+fn book_offset(k: usize) -> u32
     requires { k ≤ 1001 }
 {
-    if k == 0 { 0 } else { 998 + 2 * k }
+    if k == 0 { 0 } else { 998 + 2 * k as u32 }
 }
 
 // Whether a literal is true under the values.
@@ -43,11 +42,14 @@ fn is_true(x: u16, vals: &[u8]) -> bool {
     }
 }
 
-// How many clauses are true under the values.
-fn true_clauses(table: &Table<'_>, vals: &[u8]) -> usize {
-    (1..=table.clauses)
-        .filter(|k| table.clause_literals(*k).iter().any(|x| is_true(*x, vals)))
-        .count()
+// How many clauses are true under the values; none, where the table is not sound.
+fn true_clauses(table: &Table<'_, '_>, vals: &[u8]) -> usize {
+    match table.checked() {
+        Ok(book) => (1..=table.clauses)
+            .filter(|k| book.row(*k).iter().any(|x| is_true(*x, vals)))
+            .count(),
+        Err(_) => 0,
+    }
 }
 
 // The variables that have the value 1, each after a blank.
@@ -66,12 +68,12 @@ impl fmt::Display for Ones<'_> {
 }
 
 // Rebuilds what was read, from values that are all 0.
-fn rebuilds(rt: &impl Print, table: &Table<'_>, stack: &Stack<'_>) -> io::Result<()> {
+fn rebuilds(rt: &impl Print, table: &Table<'_, '_>, stack: &Stack<'_>) {
     let mut vals = [0; 1001];
     let clauses = table.clauses;
     let many = true_clauses(table, &vals);
-    println!(rt; "the book read back, all values 0: {many} of {clauses} clauses are true")?;
-    match rebuild(table, stack, &mut vals) {
+    let _ = println!(rt; "the book read back, all values 0: {many} of {clauses} clauses are true");
+    let _ = match rebuild(table, stack, &mut vals) {
         Ok(()) => {
             let ones = Ones(&vals);
             let many = true_clauses(table, &vals);
@@ -80,30 +82,39 @@ fn rebuilds(rt: &impl Print, table: &Table<'_>, stack: &Stack<'_>) -> io::Result
             )
         }
         Err(refusal) => println!(rt; "{refusal}"),
-    }
+    };
 }
 
 // Reads the book's form into fresh buffers, and rebuilds.
-fn restores(rt: &impl Print, alloc: Global, form: &[u8]) -> io::Result<()> {
-    let mut buffers = forms::buffers(alloc)?;
+fn restores(rt: &impl Print, form: &[u8]) {
+    let mut lits = [0; 16000];
+    let mut offs = [0; 4001];
+    let mut words = [0; 8000];
+    let mut buffers = Buffers::new(&mut lits, &mut offs, &mut words);
     match forms::read(form, &mut buffers) {
         Ok(counts) => {
-            let count = counts.removals;
-            let left = buffers.left(counts.variables, counts.clauses, count);
-            let stack = Stack {
-                words: &buffers.stack,
-                count,
+            let table = Table {
+                variables: counts.variables,
+                clauses: counts.clauses,
+                lits: &lits,
+                offs: &offs,
             };
-            rebuilds(rt, &left.table, &stack)
+            let stack = Stack {
+                words: &words,
+                count: counts.removals,
+            };
+            rebuilds(rt, &table, &stack);
         }
-        Err(refusal) => println!(rt; "{refusal}"),
+        Err(refusal) => {
+            let _ = println!(rt; "{refusal}");
+        }
     }
 }
 
 // Makes the book, eliminates, prints the stack, writes the book's form, compares what is read from it, and reads it once more.
-pub fn run(rt: &impl Print, alloc: Global) -> io::Result<()> {
-    let lits: Vec<u16> = (0..3000).map(|i| book_code(i)).collect(alloc)?;
-    let offs: Vec<u32> = (0..=1001).map(|k| book_offset(k)).collect(alloc)?;
+pub fn run(rt: &impl Print) {
+    let lits: [u16; 3000] = array::from_fn(|i| book_code(i));
+    let offs: [u32; 1002] = array::from_fn(|k| book_offset(k));
     let table = Table {
         variables: 1001,
         clauses: 1001,
@@ -114,15 +125,17 @@ pub fn run(rt: &impl Print, alloc: Global) -> io::Result<()> {
     match eliminate(&table, &mut words) {
         Ok(count) => {
             let (entries, _) = cut(&words, count.saturating_mul(2));
-            println!(rt; "the book: eliminate removes {count}:{}", Items(entries))?;
+            let _ = println!(rt; "the book: eliminate removes {count}:{}", Items(entries));
             let stack = Stack {
                 words: &words,
                 count,
             };
-            let mut form = vec![in alloc; 7; 11023]?;
-            comes_back(rt, alloc, "the book saved", &table, &stack, &mut form)?;
-            restores(rt, alloc, &form)
+            let mut form = [7; 11023];
+            comes_back(rt, "the book saved", &table, &stack, &mut form);
+            restores(rt, &form);
         }
-        Err(refusal) => println!(rt; "{refusal}"),
+        Err(refusal) => {
+            let _ = println!(rt; "{refusal}");
+        }
     }
 }

@@ -7,10 +7,8 @@ mod book; // book.rt: a book with a rule of 1,000 literals
 mod form; // form.rt: forms with long clauses laid down by hand
 mod limits; // limits.rt: both sides of each limit
 
-use std::io;
-
 // Runs it all.
-fn main(rt: HostRuntime) -> io::Result<()> {
-    limits::run(&rt, rt.alloc())?;
-    book::run(&rt, rt.alloc())
+fn main(rt: HostRuntime) {
+    limits::run(&rt);
+    book::run(&rt);
 }

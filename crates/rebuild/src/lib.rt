@@ -35,13 +35,13 @@ fn bad_value(n: usize, vals: &[u8]) -> Option<usize>
 
 // Values lent for an opened stack: a byte for each variable of its table, 0 or 1.
 #[derive(Drop)]
-struct Choice<'t, 's, 'v> {
-    opened: Opened<'t, 's>,
+struct Choice<'l, 'o, 's, 'v> {
+    opened: Opened<'l, 'o, 's>,
     vals: &'v mut [u8],
     ghost valued: { Valued opened.book.table.variables vals.now },
 }
 
-impl Choice<'_, '_, '_> {
+impl Choice<'_, '_, '_, '_> {
     // Whether the literal is true under the values.
     #[tactic(auto, using(crate::proofs::Bytes::value_tests))]
     fn value_of(&self, l: u16) -> bool

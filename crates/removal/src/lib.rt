@@ -22,15 +22,15 @@ use table::{Entry, Refusal, SoundTable, Stack, Table};
 // Where elimination works: the index of the table, the marks of what is live, and the stack with the count of its entries. There is room for every
 // clause that is still live.
 #[derive(Drop)]
-struct Desk<'t, 'a, 's> {
-    index: Index<'t, 'a>,
+struct Desk<'l, 'o, 'a, 's> {
+    index: Index<'l, 'o, 'a>,
     live: &'s mut [bool],
     stack: &'s mut [u32],
     count: usize,
     ghost room: { Roomy (lent index.book.table) live.now stack.now count },
 }
 
-impl Desk<'_, '_, '_> {
+impl Desk<'_, '_, '_, '_> {
     // The first literal that blocks clause k, if it is live.
     fn turn(&self, k: usize) -> Option<u16>
         requires { (1 ≤ k) × (k ≤ self.now.index.book.table.clauses) }

@@ -1,5 +1,5 @@
 -- The literal test from the two clauses as they stand, with no copy of either. Assumes nothing.
-use mathlib.Core.Path.{◌≡◌, refl}
+use mathlib.Core.Path.{◌≡◌, refl, sym, ap, ◌∙◌}
 use mathlib.Core.Bool.{Bool, true, false, not, ◌&&◌, ◌||◌}
 use mathlib.Core.List.{◌++◌}
 use mathlib.Core.Logic.{◌↔◌, inl, inr, ◌≢◌}
@@ -26,6 +26,18 @@ opposed_is D z x = (
 but_is : (D : Clause) (z x : ℕ) → (opposed_but D z x ≡ true) ↔ ((x ≢ z) × (opposed D z x ≡ true))
 unfolding opposed_but
 but_is D z x = (λ h. let q = simp and_true at h in (eqb-false x z (not-true _ q.0), q.1), λ h. rw (ne_eqb x z h.0, h.1))
+
+-- a literal of D and one of C clash, whichever of the two is sought first
+across : (C D : Clause) (z : ℕ) → any (opposed C (neg z)) D ≡ true → any (opposed D z) C ≡ true
+across C D z h =
+    let q = mem_any (opposed C (neg z)) D h in
+    let r = (opposed_is C (neg z) q.0).0 q.2 in
+    any_mem (opposed D z) C (neg q.0) (in_mem (neg q.0) C r.0)
+    ((opposed_is D z (neg q.0)).1 (rw (neg_neg q.0) (mem_in q.0 D q.1), λ e. r.1 (ap neg (sym (neg_neg q.0) ∙ e))))
+
+-- so a clash may be sought from either clause
+pub opposed_either : (C D : Clause) (z : ℕ) → any (opposed C (neg z)) D ≡ any (opposed D z) C
+opposed_either C D z = same _ _ (across C D z) (λ h. across D C (neg z) (rw (neg_neg z) h))
 
 -- C together with D without z: a variable and its negation stand across the two, or both within D, or both within C
 pub tautology_join : (C : Clause) (z : ℕ) (D : Clause)

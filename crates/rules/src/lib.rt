@@ -73,11 +73,24 @@ fn opposes(d: &[u16], z: u16, x: u16) -> bool
     y != z && contains(d, y)
 }
 
-// Whether some literal of c has its negation, z apart, in d. (This and the next two are a line each, over three definitions.)
-fn clashes(c: &[u16], d: &[u16], z: u16) -> bool
+// Whether some literal of c has its negation, z apart, in d: c is gone through. (This one, `clashes_within` and `is_tautology` are a line each, over three
+// definitions.)
+fn clashes_from(c: &[u16], d: &[u16], z: u16) -> bool
     ensures { result ≡ any (opposed d.now z) c.now }
 {
     c.iter().any(|x| opposes(d, z, *x))
+}
+
+// The same, going through the shorter of the two: many literals of the longer one are compared at once.
+#[tactic(auto, using(crate::proofs::Joins::opposed_either))]
+fn clashes(c: &[u16], d: &[u16], z: u16) -> bool
+    ensures { result ≡ any (opposed d.now z) c.now }
+{
+    if d.len() < c.len() {
+        clashes_from(d, c, negated(z))
+    } else {
+        clashes_from(c, d, z)
+    }
 }
 
 // Whether d without z is a tautology.

@@ -1,15 +1,21 @@
--- The numbers of bytes, two each, and the literals among them, as the code goes through them. Assumes nothing.
-use mathlib.Core.Path.{◌≡◌, refl, sym, ap, ◌∙◌}
-use mathlib.Core.Bool.{true, false}
+-- The numbers of bytes, two each, and the tests of literals among them, as the code goes through them. Assumes nothing.
+use mathlib.Core.Path.{◌≡◌, refl, sym}
+use mathlib.Core.Bool.{true, false, ◌&&◌}
 use mathlib.Core.List.{List, [], ◌∷◌}
 use Prim.Native.Nat.{ℕ, ◌+◌, ◌-◌, ◌*◌, ◌/◌, ◌≤◌, ◌<◌}
 use native.Mathlib.Omega.{arith}
-use native.Mathlib.Numerals.{add-one}
+use lib.Dec.{leb}
 use lib.ListN.{length, get_or, take, drop}
-use lib.Seq.{drop-cons}
-use Rattle.rules.specs.Clause.{mem}
-use Rattle.table.specs.Table.{distinct}
+use borrow.Author.Tests.{le-leb, lt-leb}
+use Rattle.rules.specs.Walk.{every}
+use Rattle.rules.specs.Clause.{Clause}
+use Rattle.rules.proofs.Logic.{and_no}
+use Rattle.table.specs.Limits.{Limits}
+use Rattle.table.specs.Table.{distinct, coded, sound_clause}
 use Rattle.table.proofs.Laying.{tail_is}
+use Rattle.saved_read.specs.Inner.{heads_of}
+use Rattle.saved_read.specs.declared.Kind.{Kind}
+use Rattle.saved_read.specs.declared.Kind.TheVariants.{Live, Removed}
 use Rattle.saved.specs.Bytes.{numbers_from, numbers_of}
 use Rattle.saved.proofs.Digits.{drop_numbers}
 
@@ -28,13 +34,27 @@ length_numbers (a ∷ b ∷ r) = rw (numbers_step (a ∷ b ∷ r) (omega arith))
 pub numbers_after : (k : ℕ) (v : List ℕ) → 2 * k ≤ length v → drop k (numbers_of 2 v) ≡ numbers_of 2 (take (length v - 2 * k) (drop (2 * k) v))
 numbers_after k v h = rw (tail_is v (2 * k)) (sym (drop_numbers 2 k v (omega arith) h))
 
--- the literals from the one with i before it
-module _ (xs : List ℕ) (i : ℕ) (rest : List ℕ) (tail : rest ≡ drop (i + 1) xs) (h : i < length xs) where
-  once_here : distinct (drop i xs) ≡ distinct (get_or xs i 0 ∷ rest)
-  once_here = rw (tail, add-one i, drop-cons xs i 0 h)
+-- one or two numbers stand before the literals
+pub heads_few : (kind : Kind) → (1 ≤ heads_of kind) × (heads_of kind ≤ 2)
+heads_few Live = (omega arith, omega arith)
+heads_few Removed = (omega arith, omega arith)
 
-  pub once_again : mem (get_or xs i 0) rest ≡ true → distinct (drop i xs) ≡ false
-  once_again m = once_here ∙ unfold distinct in rw m
+-- a clause's tests alone, as those of a sound clause within limits that it keeps to
+abbrev pub longest : Clause → Limits
+longest C = record { variables = 0; clauses = 0; literals = 0; clause_literals = length C; text_bytes = 0 }
 
-  pub once_past : mem (get_or xs i 0) rest ≡ false → distinct (drop i xs) ≡ distinct (drop (i + 1) xs)
-  once_past m = once_here ∙ (unfold distinct in rw m (ap distinct tail))
+pub sound_alone : (n : ℕ) (C : Clause) → sound_clause (longest C) n C ≡ (every (coded n) C && distinct C)
+unfolding sound_clause
+sound_alone n C = rw (le-leb (length C) (length C) (omega arith))
+
+pub coded_low : (n x : ℕ) → x < 2 → coded n x ≡ false
+unfolding coded
+coded_low n x h = rw (lt-leb 2 x h)
+
+pub coded_high : (n x : ℕ) → 2 * n + 1 < x → coded n x ≡ false
+unfolding coded
+coded_high n x h = rw (lt-leb x (2 * n + 1) h) (and_no (leb 2 x))
+
+pub coded_right : (n x : ℕ) → 2 ≤ x → x ≤ 2 * n + 1 → coded n x ≡ true
+unfolding coded
+coded_right n x l h = rw (le-leb 2 x l, le-leb x (2 * n + 1) h)

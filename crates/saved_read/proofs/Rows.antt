@@ -6,18 +6,13 @@ use native.Mathlib.Omega.{arith}
 use native.Mathlib.Numerals.{add-one}
 use lib.ListN.{length, take, drop, set, length-append}
 use borrow.Rule.Slice.PartMut.{put_mid}
-use denote.Ref.{Bor}
-use Rattle.std.specs.Prelude.{Option, Some, None}
-use Rattle.std.specs.Option.{unwrap_or}
 use Rattle.rules.specs.Walk.{upto}
 use Rattle.rules.specs.Clause.{Clause}
 use Rattle.rules.proofs.Walks.{upto_same}
 use Rattle.rules.proofs.Logic.{by_eq}
 use Rattle.table.specs.Stack.{lay}
 use Rattle.saved.specs.Reading.{all_literals, all_offsets}
-use Rattle.saved.specs.Bytes.{numbers_from, numbers_of}
 use Rattle.saved.proofs.Packed.{length_offsets}
-use Rattle.saved_read.specs.Inner.{row_in}
 use Rattle.table.proofs.Laying.{set_lay, lay_over, tail_laid}
 
 module _ (f : ℕ → Clause) where
@@ -58,11 +53,6 @@ module _ (f : ℕ → Clause) where
       → set out (k + 1) x ≡ lay (all_offsets f (k + 1)) old
   offsets_more k x old out e l h =
       rw (e, h) (set_lay (all_offsets f k) old (length (all_literals f (k + 1))) (k + 1) (length_offsets f k) l ∙ rw (add-one k) (unfold all_offsets upto in refl))
-
--- a part as the code has it, empty where there is none
-pub part_row : (o : Option (Bor (List ℕ))) (d : Bor (List ℕ)) → d.now ≡ [] → numbers_of 2 (unwrap_or o d).now ≡ row_in o
-part_row None d e = rw e (unfold numbers_of numbers_from in refl)
-part_row (Some v) d e = refl
 
 -- the same clauses give the same lists
 pub literals_same : (f g : ℕ → Clause) (m : ℕ) → ((k : ℕ) → f k ≡ g k) → all_literals f m ≡ all_literals g m

@@ -6,12 +6,12 @@ use mathlib.Core.Logic.{◌≢◌}
 use mathlib.Core.Option.{none, some}
 use Prim.Native.Nat.{ℕ, suc, ◌+◌, ◌-◌, ◌*◌, ◌/◌, ◌≤◌, ◌<◌}
 use native.Mathlib.Omega.{arith}
-use denote.Ref.{Bor}
 use lib.Dec.{eqb, ltb}
-use lib.ListN.{length, get_or, take, drop, set, length-set, length-drop}
+use lib.ListN.{length, get_or, take, drop, set, length-set}
 use lib.Seq.{drop-drop, get_or-set_same, get_or-set_other}
 use borrow.Author.Tests.{eq-eqb, ne_eqb, leb-true, ltb-true, ltb-false, le-ltb}
 use Rattle.std.specs.Prelude.{Option, Some, None, is_some, Ok, Err}
+use Rattle.std.proofs.lemmas.List.{drop-take}
 use Rattle.rules.specs.Walk.{upto}
 use Rattle.rules.specs.Clause.{Clause, mem}
 use Rattle.rules.proofs.Logic.{by_bool, by_eq, and_true}
@@ -24,24 +24,25 @@ use Rattle.table.specs.declared.Refusal.TheVariants.{OverLimit, BadSaved}
 use Rattle.table.proofs.Laying.{tail_is}
 use Rattle.table.proofs.Stacks.{entries_push, length_push}
 use Rattle.saved.specs.Bytes.{numbers_of}
-use Rattle.saved.specs.Field.{narrow, tag_of, whole_field}
+use Rattle.saved.specs.Field.{narrow, tag_of, value_of, whole_field}
 use Rattle.saved.specs.Form.{Head, Line, number_of, blocking_of, heads_at, tag_at}
 use Rattle.table.specs.Res.{Res, on_ok}
 use Rattle.saved.specs.Reading.{line_tests, line_length, line_limits, line_sound, new_number, line_at, end_tests, read_lines, literals_of, entries_of}
 use Rattle.table.proofs.Answers.{test_none}
 use Rattle.saved.proofs.Accepted.{passed}
-use Rattle.saved_read.specs.Inner.{kind_at, heads_of, Parts, is_met, new_on, sound_on, value_tests, front_of, line_on, value_at, push_block, pushed_on, count_on, row_in, Clear, AllRead}
+use Rattle.saved_read.specs.Inner.{kind_at, heads_of, Parts, is_met, new_on, sound_on, value_tests, front_of, line_on, value_at, push_block, pushed_on, count_on, row_in, Within, Clear, AllRead}
+use Rattle.saved_read.specs.declared.known.Part.{Part}
 use Rattle.saved_read.specs.declared.Kind.{Kind}
 use Rattle.saved_read.specs.declared.Kind.TheVariants.{Live, Removed}
 use Rattle.saved_read.specs.declared.Front.{Front}
-use Rattle.saved_read.proofs.Numbers.{length_numbers, numbers_after}
+use Rattle.saved_read.proofs.Numbers.{length_numbers, numbers_after, heads_few}
 use Rattle.saved_read.proofs.Found.{given_by, refused_by, first_two, Found, lost}
 
 -- the numbers met are those whose parts are remembered
 abbrev pub Marks : List ℕ → Parts → Type 0
 Marks met parts = (k : ℕ) → mem k met ≡ is_met parts k
 
-mark : (met : List ℕ) (parts : Parts) (k : ℕ) (v : Bor (List ℕ)) → k < length parts → Marks met parts → Marks (k ∷ met) (set parts k (Some v))
+mark : (met : List ℕ) (parts : Parts) (k : ℕ) (v : Part) → k < length parts → Marks met parts → Marks (k ∷ met) (set parts k (Some v))
 mark met parts k v h r j =
     by_eq j k (λ e. rw (e, mem_here k met, get_or-set_same parts k (Some v) None h))
     (λ e. rw (mem_other j k met e, get_or-set_other parts k j (Some v) None e) (r j))
@@ -122,9 +123,9 @@ kept kind h total last parts v at e =
     }
 
 -- the clause that a part holds, or another where there is none
-abbrev pub row_or : Option (Bor (List ℕ)) → Clause → Clause
-row_or None C = C
-row_or (Some v) C = numbers_of 2 v.now
+abbrev pub row_or : List ℕ → Option Part → Clause → Clause
+row_or b None C = C
+row_or b (Some p) C = row_in b (Some p)
 
 -- between two lines: c lines are still to come
 pub record State (b : List ℕ) (h : Head) (c last total at : ℕ) (parts : Parts) (words : List ℕ) (count : ℕ) : Type 0 where
@@ -134,11 +135,13 @@ pub record State (b : List ℕ) (h : Head) (c last total at : ℕ) (parts : Part
   pub is_last : get_or met 0 0 ≡ last
   pub marks : Marks met parts
   pub fresh : h.removals ≤ c → (k : ℕ) → last < k → get_or parts k None ≡ None
-  pub rows : (ys : List Line) (k : ℕ) → length ys ≡ c → literals_of h.removals (done ++ ys) k ≡ row_or (get_or parts k None) (literals_of h.removals ys k)
+  pub rows : (ys : List Line) (k : ℕ) → length ys ≡ c → literals_of h.removals (done ++ ys) k ≡ row_or b (get_or parts k None) (literals_of h.removals ys k)
   pub stacked : (ys : List Line) → length ys ≡ c → entries_of h.removals (done ++ ys) ≡ entries words count ++ entries_of h.removals ys
   pub few : count + c ≤ h.clauses
   pub full : total ≤ 16_000
   pub inside : at ≤ length b
+  pub within : Within b parts
+  pub short : at + 8 * c ≤ 32_011 + 2 * total
   pub parts_room : h.clauses < length parts
   pub words_room : 2 * h.clauses ≤ length words
 
@@ -159,6 +162,8 @@ state_start b h parts words m g = record {
   few = omega arith;
   full = omega arith;
   inside = g.long;
+  within = λ k p e. absurd (let z = g.none_met k in cc);
+  short = omega arith;
   parts_room = let r = g.parts_room in omega arith;
   words_room = let r = g.words_room in omega arith;
 }
@@ -167,6 +172,9 @@ state_start b h parts words m g = record {
 on_cons : (done : List Line) (x : Line) (w : Res (List Line)) → on_ok (λ ys. done ++ ys) (on_ok (λ ys. x ∷ ys) w) ≡ on_ok (λ ys. (done ++ x ∷ []) ++ ys) w
 on_cons done x (Err f) = refl
 on_cons done x (Ok ys) = ap Ok (sym (append_assoc done (x ∷ []) ys))
+
+some_same : {A : Type 0} (a c : A) → ◌≡◌ {A = Option A} (Some a) (Some c) → a ≡ c
+some_same a c e = cc
 
 is_none : {A : Type 0} (o : Option A) → not (is_some o) ≡ true → o ≡ None
 is_none None e = refl
@@ -216,33 +224,57 @@ module _ (b : List ℕ) (h : Head) (c last total at : ℕ) (parts : Parts) (word
           (λ i. rw number (is_none (get_or parts (number_of x) None) (rw i at holds.new)))
           (λ i. let l = ltb-false c h.removals i in g.fresh (omega arith) k (rising (omega arith)))
 
-      module _ (u : Bor (List ℕ)) (part : u.now ≡ take (length v - 2 * heads_of K) (drop (2 * heads_of K) v)) where
+      pub new_full : total + (length v / 2 - heads_of K) ≤ 16_000
+      new_full = let l = length_numbers v in let w = holds.full in omega arith
+
+      -- a line takes at most 8 bytes beside its literals, so all of them end before 65,536
+      pub new_short : at + (3 + length v) + 8 * c ≤ 32_011 + 2 * (total + (length v / 2 - heads_of K))
+      new_short = let s = g.short in let l = holds.long in let w = heads_few K in omega (arith, w.0, w.1)
+
+      module _ (p : Part) (from : p.from ≡ at + 3 + 2 * heads_of K) (to : p.to ≡ at + (3 + length v)) where
         abbrev parts₂ : Parts
-        parts₂ = set parts k (Some u)
+        parts₂ = set parts k (Some p)
 
-        row : numbers_of 2 u.now ≡ drop (heads_at c h.removals) x
-        row = ap (numbers_of 2) part ∙ sym (numbers_after (heads_of K) v holds.long) ∙ ap (λ (i : ℕ). drop i x) (heads_same c h.removals)
-
-        many : length u.now / 2 ≡ length x - heads_of K
-        many =
-            let a = length_numbers u.now in
-            let d = length_numbers v in
-            let z = ap length (part ∙ tail_is v (2 * heads_of K)) ∙ length-drop (2 * heads_of K) v in
+        -- the value from its literals on
+        tail : take (p.to - p.from) (drop p.from b) ≡ drop (2 * heads_of K) v
+        unfolding value_of
+        tail =
             let l = holds.long in
-            omega arith
+            let n : length v ≡ 2 * heads_of K + (p.to - p.from) = omega arith in
+            let d : drop 3 (drop at b) ≡ drop (at + 3) b = drop-drop 3 at b in
+            let e : v ≡ take (2 * heads_of K + (p.to - p.from)) (drop (at + 3) b) = f.value ∙ rw (sym f.size ∙ n, d) refl in
+            sym (ap (drop (2 * heads_of K)) e ∙ drop-take (2 * heads_of K) (p.to - p.from) (drop (at + 3) b) ∙ rw (drop-drop (2 * heads_of K) (at + 3) b, from) refl)
 
-        pub new_full : total + length u.now / 2 ≤ 16_000
-        new_full = let m = many in let w = holds.full in omega arith
+        row : row_in b (Some p) ≡ drop (heads_at c h.removals) x
+        row =
+            ap (numbers_of 2) (tail ∙ sym (tail_is v (2 * heads_of K)))
+            ∙ sym (numbers_after (heads_of K) v holds.long)
+            ∙ ap (λ (i : ℕ). drop i x) (heads_same c h.removals)
+
+        many : length v / 2 - heads_of K ≡ length x - heads_of K
+        many = let l = length_numbers v in omega arith
+
+        new_within : Within b parts₂
+        new_within j q e =
+            let pr = g.parts_room in
+            let mo = most in
+            by_eq j k
+            (λ i. let s = get_or-set_same parts k (Some p) None (omega arith) in
+            let r : p ≡ q = some_same p q (sym s ∙ ap (λ (n : ℕ). get_or parts₂ n None) (sym i) ∙ e) in
+            let w = f.within in
+            let l = holds.long in
+            rw (← r) (omega arith, omega arith))
+            (λ i. g.within j q (sym (get_or-set_other parts k j (Some p) None i) ∙ e))
 
         next_reads : read_lines base narrow h h.clauses [] 0 11 (drop 11 b)
-            ≡ on_ok (λ ys. (g.done ++ x ∷ []) ++ ys) (read_lines base narrow h c (k ∷ g.met) (total + length u.now / 2) (at + (3 + length v)) (drop (at + (3 + length v)) b))
+            ≡ on_ok (λ ys. (g.done ++ x ∷ []) ++ ys) (read_lines base narrow h c (k ∷ g.met) (total + (length v / 2 - heads_of K)) (at + (3 + length v)) (drop (at + (3 + length v)) b))
         unfolding read_lines line_at
         next_reads =
             g.reads
             ∙ rw (taken.0, ← f.size, ← f.value, drop-drop (3 + length v) at b, ← number, ← heads_same c h.removals, ← many)
-            (on_cons g.done x (read_lines base narrow h c (k ∷ g.met) (total + length u.now / 2) (at + (3 + length v)) (drop (at + (3 + length v)) b)))
+            (on_cons g.done x (read_lines base narrow h c (k ∷ g.met) (total + (length v / 2 - heads_of K)) (at + (3 + length v)) (drop (at + (3 + length v)) b)))
 
-        row_here : (ys : List Line) → length ys ≡ c → literals_of h.removals (x ∷ ys) k ≡ numbers_of 2 u.now
+        row_here : (ys : List Line) → length ys ≡ c → literals_of h.removals (x ∷ ys) k ≡ row_in b (Some p)
         unfolding literals_of
         row_here ys l = rw (eq-eqb (number_of x) k (sym number), l) (sym row)
 
@@ -251,15 +283,15 @@ module _ (b : List ℕ) (h : Head) (c last total at : ℕ) (parts : Parts) (word
         row_other ys j i = rw (ne_eqb (number_of x) j (λ z. i (sym z ∙ sym number)))
 
         next_rows : (ys : List Line) (j : ℕ) → length ys ≡ c
-            → literals_of h.removals ((g.done ++ x ∷ []) ++ ys) j ≡ row_or (get_or parts₂ j None) (literals_of h.removals ys j)
+            → literals_of h.removals ((g.done ++ x ∷ []) ++ ys) j ≡ row_or b (get_or parts₂ j None) (literals_of h.removals ys j)
         next_rows ys j l =
             let pr = g.parts_room in
             let mo = most in
             rw (append_assoc g.done (x ∷ []) ys)
             (g.rows (x ∷ ys) j (ap suc l)
             ∙ by_eq j k
-            (λ i. rw (i, was_fresh, get_or-set_same parts k (Some u) None (omega arith)) (row_here ys l))
-            (λ i. rw (get_or-set_other parts k j (Some u) None i, row_other ys j i)))
+            (λ i. rw (i, was_fresh, get_or-set_same parts k (Some p) None (omega arith)) (row_here ys l))
+            (λ i. rw (get_or-set_other parts k j (Some p) None i, row_other ys j i)))
 
         stacked_gone : (ys : List Line) → length ys ≡ c → ltb c h.removals ≡ true
             → entries words count ++ entries_of h.removals (x ∷ ys) ≡ entries (pushed_on y count words) (count_on y count) ++ entries_of h.removals ys
@@ -294,21 +326,23 @@ module _ (b : List ℕ) (h : Head) (c last total at : ℕ) (parts : Parts) (word
             room None = g.words_room
             room (Some p) = rw (length_push words count k p) g.words_room
 
-        pub state_next : State b h c k (total + length u.now / 2) (at + (3 + length v)) parts₂ (pushed_on y count words) (count_on y count)
+        pub state_next : State b h c k (total + (length v / 2 - heads_of K)) (at + (3 + length v)) parts₂ (pushed_on y count words) (count_on y count)
         state_next = record {
           done = g.done ++ x ∷ [];
           met = k ∷ g.met;
           reads = next_reads;
           is_last = refl;
-          marks = mark g.met parts k u (let pr = g.parts_room in let mo = most in omega arith) g.marks;
+          marks = mark g.met parts k p (let pr = g.parts_room in let mo = most in omega arith) g.marks;
           fresh = λ l j i.
-              get_or-set_other parts k j (Some u) None (λ e. absurd (omega arith)) ∙ g.fresh (omega arith) j (let z = rising l in omega arith);
+              get_or-set_other parts k j (Some p) None (λ e. absurd (omega arith)) ∙ g.fresh (omega arith) j (let z = rising l in omega arith);
           rows = next_rows;
           stacked = next_stacked;
           few = next_few;
           full = new_full;
           inside = let w = f.within in omega arith;
-          parts_room = rw (length-set parts k (Some u)) g.parts_room;
+          within = new_within;
+          short = new_short;
+          parts_room = rw (length-set parts k (Some p)) g.parts_room;
           words_room = next_room;
         }
 
@@ -327,10 +361,10 @@ module _ (b : List ℕ) (h : Head) (last total at : ℕ) (parts : Parts) (words 
   unfolding read_lines
   end_refused x e = g.reads ∙ rw e
 
-  row_end : (k : ℕ) (o : Option (Bor (List ℕ))) → row_or o (literals_of h.removals [] k) ≡ row_in o
+  row_end : (k : ℕ) (o : Option Part) → row_or b o (literals_of h.removals [] k) ≡ row_in b o
   unfolding literals_of
   row_end k None = refl
-  row_end k (Some u) = refl
+  row_end k (Some p) = refl
 
   pub end_read : end_tests base narrow h total (drop at b) at ≡ none → AllRead b h parts words count
   end_read e = record {
@@ -339,4 +373,5 @@ module _ (b : List ℕ) (h : Head) (last total at : ℕ) (parts : Parts) (words 
     rows = λ k. ap (λ (xs : List Line). literals_of h.removals xs k) (sym (append-nil g.done)) ∙ g.rows [] k refl ∙ row_end k (get_or parts k None);
     stacked = ap (entries_of h.removals) (sym (append-nil g.done)) ∙ g.stacked [] refl ∙ unfold entries_of in append-nil (entries words count);
     few = let u = g.few in omega arith;
+    within = g.within;
   }

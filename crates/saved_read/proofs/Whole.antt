@@ -74,7 +74,7 @@ module _ (b : List ℕ) (h : Head) (g : Headed b h) where
     F = record { head = h; lines = a.lines }
 
     abbrev P : ℕ → Clause
-    P = row_of parts
+    P = row_of b parts
 
     form_read : read_form base narrow b ≡ Ok F
     form_read = form_is ∙ rw a.read

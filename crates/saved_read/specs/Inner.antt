@@ -1,5 +1,5 @@
 -- What the reader's inner functions answer: fields, lines beside the parts of the bytes remembered, the scan and the table it leads to. Assumes nothing.
-use Rattle.std.specs.Prelude.{◌≡◌, Bool, true, not, ◌&&◌, cond, List, [], ◌∷◌, ℕ, suc, ◌+◌, ◌*◌, ◌≤◌, ◌<◌, eqb, leb, ltb, length, get_or, take, drop, Option, Some, None, is_some, Result, Ok, Err}
+use Rattle.std.specs.Prelude.{◌≡◌, Bool, true, not, ◌&&◌, cond, List, [], ◌∷◌, ℕ, suc, ◌-◌, ◌*◌, ◌≤◌, ◌<◌, eqb, leb, ltb, length, get_or, take, drop, Option, Some, None, is_some, Result, Ok, Err}
 use Rattle.std.proofs.Math.Option.{Option as Tests}
 use denote.Ref.{Bor}
 use Rattle.rules.specs.Walk.{every}
@@ -15,13 +15,13 @@ use Rattle.saved.specs.Bytes.{numbers_of}
 use Rattle.saved.specs.Field.{narrow, tag_of, value_of, whole_field}
 use Rattle.saved.specs.Form.{Head, Line, number_of, blocking_of}
 use Rattle.table.specs.Res.{on_ok, or_fault}
-use Rattle.saved.specs.Reading.{head_at, head_tests, line_length, line_limits, read_lines, literals_of, entries_of, all_literals, all_offsets}
+use Rattle.saved.specs.Reading.{head_at, head_tests, line_length, line_limits, read_lines, literals_of, entries_of}
 use Rattle.saved.specs.Saved.{Loaded, loaded, or_kept}
 use Rattle.saved_read.specs.declared.known.Head.{Head as HeadRead}
+use Rattle.saved_read.specs.declared.known.Part.{Part}
 use Rattle.saved_read.specs.declared.Kind.{Kind}
 use Rattle.saved_read.specs.declared.Kind.TheVariants.{Live, Removed}
 use Rattle.saved_read.specs.declared.Front.{Front}
-use Rattle.saved_read.specs.declared.Counts.{Counts}
 
 -- what the value that is handed out holds
 abbrev pub value_read : Result (Bor (List ℕ)) Refusal → Result (List ℕ) Refusal
@@ -52,9 +52,9 @@ abbrev pub heads_of : Kind → ℕ
 heads_of Live = 1
 heads_of Removed = 2
 
--- the parts of the bytes that hold the clauses' literals, as far as the lines were read, by clause number
+-- where the clauses' literals lie in the bytes, as far as the lines were read, by clause number
 abbrev pub Parts : Type 0
-Parts = List (Option (Bor (List ℕ)))
+Parts = List (Option Part)
 
 abbrev pub is_met : Parts → ℕ → Bool
 is_met parts k = is_some (get_or parts k None)
@@ -108,14 +108,18 @@ pushed_on f c words = push_block words c f.number f.block
 unfoldable pub count_on : Front → ℕ → ℕ
 count_on f c = cond (is_some f.block) (suc c) c
 
--- the literals of a part, none where there is none
-abbrev pub row_in : Option (Bor (List ℕ)) → Clause
-row_in None = []
-row_in (Some v) = numbers_of 2 v.now
+-- the literals of a part of the bytes, none where there is none
+abbrev pub row_in : List ℕ → Option Part → Clause
+row_in b None = []
+row_in b (Some p) = numbers_of 2 (take (p.to - p.from) (drop p.from b))
 
 -- the literals of clause k, from the parts remembered
-abbrev pub row_of : Parts → ℕ → Clause
-row_of parts k = row_in (get_or parts k None)
+abbrev pub row_of : List ℕ → Parts → ℕ → Clause
+row_of b parts k = row_in b (get_or parts k None)
+
+-- the parts lie in the bytes
+abbrev pub Within : List ℕ → Parts → Type 0
+Within b parts = (k : ℕ) (p : Part) → get_or parts k None ≡ Some p → (p.from ≤ p.to) × (p.to ≤ length b)
 
 -- the header was read, nothing is remembered yet, and there is room for 4,000 clauses
 pub record Clear (b : List ℕ) (parts : Parts) (words : List ℕ) : Type 0 where
@@ -128,25 +132,14 @@ pub record Clear (b : List ℕ) (parts : Parts) (words : List ℕ) : Type 0 wher
 pub record AllRead (b : List ℕ) (h : Head) (parts : Parts) (words : List ℕ) (c : ℕ) : Type 0 where
   pub lines : List Line
   pub read : read_lines base narrow h h.clauses [] 0 11 (drop 11 b) ≡ Ok lines
-  pub rows : (k : ℕ) → literals_of h.removals lines k ≡ row_of parts k
+  pub rows : (k : ℕ) → literals_of h.removals lines k ≡ row_of b parts k
+  pub within : Within b parts
   pub stacked : entries_of h.removals lines ≡ entries words c
   pub few : c ≤ h.clauses
 
 abbrev pub Scanned : List ℕ → Head → Parts → List ℕ → Result ℕ Refusal → Type 0
 Scanned b h parts words (Err x) = read_lines base narrow h h.clauses [] 0 11 (drop 11 b) ≡ Err x
 Scanned b h parts words (Ok c) = AllRead b h parts words c
-
--- the table of all lines lies at the fronts of two arrays, and the stack at that of a third
-pub record TableRead (b : List ℕ) (h : Head) (words rows ends : List ℕ) (n : Counts) : Type 0 where
-  pub parts : Parts
-  pub read : AllRead b h parts words n.removals
-  pub count : n.literals ≡ length (all_literals (row_of parts) h.clauses)
-  pub rows_hold : take n.literals rows ≡ all_literals (row_of parts) h.clauses
-  pub ends_hold : take (h.clauses + 1) ends ≡ all_offsets (row_of parts) h.clauses
-
-abbrev pub Filled : List ℕ → Head → List ℕ → List ℕ → List ℕ → Result Counts Refusal → Type 0
-Filled b h words rows ends (Err x) = read_lines base narrow h h.clauses [] 0 11 (drop 11 b) ≡ Err x
-Filled b h words rows ends (Ok n) = TableRead b h words rows ends n
 
 -- the answer ------------------------------------------------------------------
 -- what a table and its stack come to: 6 at the first entry whose literal does not block, or both at the fronts of the lent buffers

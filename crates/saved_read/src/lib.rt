@@ -3,23 +3,25 @@
 // as C lends them, and what is read on the way stands in arrays of fixed size, since there is no heap.
 #![tactic(auto)]
 
-ghost use Rattle.std.specs.Prelude.{◌≡◌, ◌+◌, ◌*◌, ◌≤◌, ◌<◌, length, get_or, drop, Ok};
+ghost use Rattle.std.specs.Prelude.{◌≡◌, ◌&&◌, ◌+◌, ◌-◌, ◌*◌, ◌≤◌, ◌<◌, length, get_or, drop, Ok};
 ghost use Rattle.rules.specs.Walk.{every};
+ghost use Rattle.rules.specs.Clause.{mem};
 ghost use Rattle.table.specs.Limits.{base};
 ghost use Rattle.table.specs.Table.{coded, distinct};
 ghost use Rattle.table.specs.Stack.{lay};
 ghost use Rattle.table.specs.Lent.{lent};
+ghost use Rattle.table.specs.Inner.{Stamped};
 ghost use Rattle.table.specs.Answer.{as_verdict};
 ghost use Rattle.saved.specs.Bytes.{numbers_of};
 ghost use Rattle.saved.specs.Field.{narrow};
 ghost use Rattle.saved.specs.Reading.{end_tests, all_literals, all_offsets};
 ghost use Rattle.saved.specs.Saved.{loaded, reading};
 ghost use Rattle.saved_read.specs.Restored.{restored};
-ghost use Rattle.saved_read.specs.Inner.{head_as, heads_of, kind_at, value_at, value_read, head_read, header_of, sound_on, line_on, pushed_on, count_on, row_of, handed_out, Clear, Scanned, Filled};
+ghost use Rattle.saved_read.specs.Inner.{head_as, heads_of, kind_at, value_at, value_read, head_read, header_of, sound_on, line_on, pushed_on, count_on, row_of, handed_out, Within, Clear, Scanned};
 
 mod known; // known.rt: what is known of a form as far as it was read
 
-use known::{Before, Head};
+use known::{Before, Head, Part};
 use stack::Opened;
 use table::{Entry, Refusal, SoundTable, Stack, Table};
 
@@ -76,13 +78,6 @@ impl Kind {
 struct Front {
     number: u16,
     block: Option<u16>,
-}
-
-// How many literals a form's table has, and how many entries its stack.
-#[derive(Clone, Copy, Debug)]
-struct Counts {
-    literals: usize,
-    removals: usize,
 }
 
 // The number that has i numbers before it.
@@ -146,59 +141,82 @@ fn read_head(bytes: &[u8]) -> Result<Head, Refusal>
     })
 }
 
-// Whether the literals are codes over n variables.
-#[tactic(auto, unfolding(table::specs::Table::coded))]
-fn all_coded(literals: &[u16], n: usize) -> bool
-    requires { n ≤ 2_000 }
-    ensures { result ≡ every (coded n) literals.now }
+// Whether the literals are codes over n variables, and none stands twice. A code met is stamped k, above every stamp that was there: a literal whose stamp
+// is k stands twice.
+fn sound_literals(literals: &[u8], n: usize, k: u16, seen: &mut [u16]) -> bool
+    requires limits { (n ≤ 2_000) × (1 ≤ k) × (length seen.old ≡ 4_002) }
+    requires stamped { Stamped seen.old (k - 1) }
+    ensures answer { result ≡ (every (coded n) (numbers_of 2 literals.now) && distinct (numbers_of 2 literals.now)) }
+    ensures stamps { Stamped seen.new k }
 {
-    literals
-        .iter()
-        .all(|x| 2 <= *x && usize::from(*x) <= 2 * n + 1)
-}
-
-// Whether no literal stands twice.
-fn all_once(literals: &[u16]) -> bool
-    ensures { result ≡ distinct literals.now }
-{
-    for (i, x) in literals.iter().enumerate() {
-        if rules::contains(&literals[i + 1..], *x) {
+    for i in 0..literals.len() / 2 {
+        let x = usize::from(number_at(literals, i));
+        if x < 2 || 2 * n + 1 < x || seen[x] == k {
             return false;
         }
+        seen[x] = k;
     }
     true
 }
 
-// What a line's numbers say, beside the lines before it.
-fn sound_line(numbers: &[u16], kind: Kind, head: &Head, before: &Before) -> bool
-    requires { heads_of kind ≤ length numbers.now }
-    ensures { result ≡ sound_on kind (head_as head.now) before.now.last before.now.parts.now numbers.now }
+// Whether x is among the numbers of v.
+fn holds(v: &[u8], x: u16) -> bool
+    ensures { result ≡ mem x (numbers_of 2 v.now) }
 {
-    let number = usize::from(numbers[0]);
-    if number < 1 || head.clauses < number {
+    for i in 0..v.len() / 2 {
+        if number_at(v, i) == x {
+            return true;
+        }
+    }
+    false
+}
+
+// What a line's numbers say, beside the lines before it. Its literals are stamped k, above every stamp of those lines.
+fn sound_line(
+    value: &[u8],
+    kind: Kind,
+    head: &Head,
+    before: &Before,
+    k: u16,
+    seen: &mut [u16],
+) -> bool
+    requires heads { 2 * heads_of kind ≤ length value.now }
+    requires stamps { (1 ≤ k) × (length seen.old ≡ 4_002) }
+    requires stamped { Stamped seen.old (k - 1) }
+    ensures answer { result ≡ sound_on kind (head_as head.now) before.now.last before.now.parts.now (numbers_of 2 value.now) }
+    ensures stamps { Stamped seen.new k }
+{
+    let number = number_at(value, 0);
+    if number < 1 || head.clauses < usize::from(number) {
         return false;
     }
-    let literals = &numbers[kind.heads()..];
-    if !all_coded(literals, head.variables) || !all_once(literals) {
+    let literals = &value[2 * kind.heads()..];
+    if !sound_literals(literals, head.variables, k, seen) {
         return false;
     }
     match kind {
-        Kind::Live => before.last < numbers[0],
-        Kind::Removed => { rules::contains(literals, numbers[1]) && before.parts[number].is_none() }
+        Kind::Live => before.last < number,
+        Kind::Removed => {
+            holds(literals, number_at(value, 1)) && before.parts[usize::from(number)].is_none()
+        }
     }
 }
 
-// The line that a field's value holds, read from that part of the bytes alone; the field is at `at`. The numbers are laid down in `room`.
+// The line that a field's value holds, read from that part of the bytes alone; the field is at `at`. Its literals are
+// stamped k, above every stamp of the lines before it.
 fn read_line(
     value: &[u8],
     at: usize,
     kind: Kind,
     head: &Head,
     before: &Before,
-    room: &mut [u16],
+    k: u16,
+    seen: &mut [u16],
 ) -> Result<Front, Refusal>
-    requires { 1002 ≤ length room.old }
-    ensures { result ≡ line_on kind (head_as head.now) before.now.literals before.now.last before.now.parts.now value.now at }
+    requires stamps { (1 ≤ k) × (length seen.old ≡ 4_002) }
+    requires stamped { Stamped seen.old (k - 1) }
+    ensures answer { result ≡ line_on kind (head_as head.now) before.now.literals before.now.last before.now.parts.now value.now at }
+    ensures stamps { Stamped seen.new k }
 {
     let heads = kind.heads();
     if value.len() % 2 != 0 || value.len() < 2 * heads {
@@ -208,19 +226,18 @@ fn read_line(
     if 1000 < count || 16000 < before.literals + count {
         return Err(Refusal::OverLimit(at));
     }
-    let many = copy_numbers(value, room);
-    let numbers = &room[..many];
-    if !sound_line(numbers, kind, head, before) {
+    if !sound_line(value, kind, head, before, k, seen) {
         return Err(Refusal::BadSaved(at));
     }
+    let number = number_at(value, 0);
     Ok(match kind {
         Kind::Live => Front {
-            number: numbers[0],
+            number,
             block: None,
         },
         Kind::Removed => Front {
-            number: numbers[0],
-            block: Some(numbers[1]),
+            number,
+            block: Some(number_at(value, 1)),
         },
     })
 }
@@ -260,16 +277,16 @@ fn read_end(bytes: &[u8], at: usize, head: &Head, literals: usize) -> Result<(),
 
 // Every clause's field tested, the part of the bytes with its literals remembered by its number, and the stack's words laid down; then the end. The answer
 // is how many entries there are.
-fn scan_lines<'a>(
-    bytes: &'a [u8],
+fn scan_lines(
+    bytes: &[u8],
     head: &Head,
-    parts: &mut [Option<&'a [u8]>],
+    parts: &mut [Option<Part>],
     words: &mut [u32],
 ) -> Result<usize, Refusal>
     requires { Clear bytes.now parts.old words.old }
     ensures { Scanned bytes.now (head_as head.now) parts.new words.new result }
 {
-    let mut room = [0u16; 1002];
+    let mut seen = [0u16; 4002];
     let mut last = 0;
     let mut total = 0;
     let mut at = 11;
@@ -282,56 +299,57 @@ fn scan_lines<'a>(
             literals: total,
             parts,
         };
-        let front = read_line(value, at, kind, head, &before, &mut room)?;
-        let literals = &value[2 * kind.heads()..];
+        let front = read_line(value, at, kind, head, &before, (read + 1) as u16, &mut seen)?;
+        let heads = kind.heads();
+        let next = at + 3 + value.len();
         count = push_entry(words, count, front);
-        parts[usize::from(front.number)] = Some(literals);
+        parts[usize::from(front.number)] = Some(Part {
+            from: (at + 3 + 2 * heads) as u16,
+            to: next as u16,
+        });
         last = front.number;
-        total += literals.len() / 2;
-        at += 3 + value.len();
+        total += value.len() / 2 - heads;
+        at = next;
     }
     read_end(bytes, at, head, total)?;
     Ok(count)
 }
 
+// The part of the bytes that holds the literals of clause k, empty where none is remembered.
+fn part_at<'a>(bytes: &'a [u8], parts: &[Option<Part>], k: usize) -> &'a [u8]
+    requires within { Within bytes.now parts.now }
+    requires there { k < length parts.now }
+    ensures { numbers_of 2 result.now ≡ row_of bytes.now parts.now k }
+{
+    match parts[k] {
+        Some(part) => &bytes[usize::from(part.from)..usize::from(part.to)],
+        None => &[],
+    }
+}
+
 // The clauses 1 to m from the parts remembered, in compressed rows: how many literals there are.
-fn fill_rows(parts: &[Option<&[u8]>], m: usize, lits: &mut [u16], offs: &mut [u32]) -> usize
+fn fill_rows(
+    bytes: &[u8],
+    parts: &[Option<Part>],
+    m: usize,
+    lits: &mut [u16],
+    offs: &mut [u32],
+) -> usize
+    requires within { Within bytes.now parts.now }
     requires clauses_fit { (m < length parts.now) × (m < length offs.old) }
-    requires literals_fit { (length (all_literals (row_of parts.now) m) ≤ length lits.old) × (length lits.old ≤ 16_000) }
-    ensures count { result ≡ length (all_literals (row_of parts.now) m) }
-    ensures lits { lits.new ≡ lay (all_literals (row_of parts.now) m) lits.old }
-    ensures offs { offs.new ≡ lay (all_offsets (row_of parts.now) m) offs.old }
+    requires literals_fit { (length (all_literals (row_of bytes.now parts.now) m) ≤ length lits.old) × (length lits.old ≤ 16_000) }
+    ensures count { result ≡ length (all_literals (row_of bytes.now parts.now) m) }
+    ensures lits { lits.new ≡ lay (all_literals (row_of bytes.now parts.now) m) lits.old }
+    ensures offs { offs.new ≡ lay (all_offsets (row_of bytes.now parts.now) m) offs.old }
 {
     offs[0] = 0;
     let mut at = 0;
     for k in 0..m {
-        let part = parts[k + 1].unwrap_or(&[]);
+        let part = part_at(bytes, parts, k + 1);
         at += copy_numbers(part, &mut lits[at..]);
         offs[k + 1] = at as u32;
     }
     at
-}
-
-// The table and the stack of a form that is read: rows and ends hold the table, words the stack. It is a function of its own, and not inlined, so that the
-// parts are gone from the machine's stack before the rest is called.
-#[inline(never)]
-fn read_rows(
-    bytes: &[u8],
-    head: &Head,
-    rows: &mut [u16],
-    ends: &mut [u32],
-    words: &mut [u32],
-) -> Result<Counts, Refusal>
-    requires headed { Ok (head_as head.now) ≡ header_of bytes.now }
-    requires rows { length rows.old ≡ 16_000 }
-    requires ends { 4_000 < length ends.old }
-    requires words { 8_000 ≤ length words.old }
-    ensures { Filled bytes.now (head_as head.now) words.new rows.new ends.new result }
-{
-    let mut parts = [None; 4001];
-    let removals = scan_lines(bytes, head, &mut parts, words)?;
-    let literals = fill_rows(&parts, head.clauses, rows, ends);
-    Ok(Counts { literals, removals })
 }
 
 // A table and its stack handed out, unless an entry's literal does not block.
@@ -373,19 +391,21 @@ pub fn read_saved(
         return Err(Refusal::NoRoom);
     }
     let head = read_head(bytes)?;
+    let mut parts = [None; 4001];
+    let mut words = [0u32; 8000];
+    let count = scan_lines(bytes, &head, &mut parts, &mut words)?;
     let mut rows = [0u16; 16000];
     let mut ends = [0u32; 4001];
-    let mut words = [0u32; 8000];
-    let read = read_rows(bytes, &head, &mut rows, &mut ends, &mut words)?;
+    let literals = fill_rows(bytes, &parts, head.clauses, &mut rows, &mut ends);
     let table = Table {
         variables: head.variables,
         clauses: head.clauses,
-        lits: &rows[..read.literals],
+        lits: &rows[..literals],
         offs: &ends[..head.clauses + 1],
     };
     let stored = Stack {
         words: &words,
-        count: read.removals,
+        count,
     };
     let opened = Opened {
         book: SoundTable { table },

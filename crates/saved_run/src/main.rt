@@ -10,12 +10,10 @@ mod form; // form.rt: K2 laid down by hand, and a form printed
 mod writes; // writes.rt: K2 both ways, and the writer's refusals
 
 use lines::Case;
-use std::io;
 
 // Runs each line, and what is too long for one.
-fn main(rt: HostRuntime) -> io::Result<()> {
-    let alloc = rt.alloc();
-    writes::k2(&rt, alloc)?;
+fn main(rt: HostRuntime) {
+    writes::k2(&rt);
     let mut table = [0; 8192];
     let len = lines::read_table(&mut rt.stdin(), &mut table);
     for line in table[..len]
@@ -24,11 +22,11 @@ fn main(rt: HostRuntime) -> io::Result<()> {
     {
         let case = Case { line };
         if case.field(1) == b"write".as_slice() {
-            writes::writes_case(&rt, alloc, case)?;
+            writes::writes_case(&rt, case);
         } else {
-            faults::reads_case(&rt, alloc, case)?;
+            faults::reads_case(&rt, case);
         }
     }
-    faults::prefixes(&rt, alloc)?;
-    faults::short_buffers(&rt, alloc)
+    faults::prefixes(&rt);
+    faults::short_buffers(&rt);
 }

@@ -1,8 +1,7 @@
 // Buffers of sevens that are lent to a reader, and what it leaves in them.
-ghost use Rattle.std.specs.Prelude.{◌≡◌, ◌&&◌, ◌+◌, ◌-◌, ◌^◌, ◌<◌, ◌==◌, IfOk, take, drop, get_or, vec_len};
+ghost use Rattle.std.specs.Prelude.{◌≡◌, ◌&&◌, ◌+◌, ◌-◌, ◌^◌, ◌<◌, ◌==◌, take, drop, get_or, length, replicate};
 ghost use Rattle.std.specs.List.{list_all};
 
-use std::alloc::{AllocError, Global};
 use table::Table;
 
 // Whether each item is the one given.
@@ -13,7 +12,7 @@ pub fn all_are<T: PartialEq>(items: &[T], wanted: &T) -> bool
 }
 
 // The offset behind the last clause: how many literals the clauses have; 0 where there is none, as the definition `offset` has it.
-pub fn total(table: &Table<'_>) -> usize
+pub fn total(table: &Table<'_, '_>) -> usize
     ensures { result ≡ get_or table.now.offs.now table.now.clauses 0 }
 {
     table.offs.get(table.clauses).map_or(0, |end| *end as usize)
@@ -29,52 +28,51 @@ pub fn cut<T>(items: &[T], at: usize) -> (&[T], &[T])
 
 // The buffers that a reader is lent.
 #[derive(Debug, Drop)]
-pub struct Buffers {
-    pub lits: Vec<u16>,
-    pub offs: Vec<u32>,
-    pub stack: Vec<u32>,
+pub struct Buffers<'a> {
+    pub lits: &'a mut [u16],
+    pub offs: &'a mut [u32],
+    pub stack: &'a mut [u32],
 }
 
 // What a reader leaves in its buffers: the table, the stack's words, and whether all that is behind them is as it came, which is printed beside them.
 #[derive(Clone, Copy, Debug)]
 pub struct Left<'a> {
-    pub table: Table<'a>,
+    pub table: Table<'a, 'a>,
     pub stack: &'a [u32],
     pub is_rest_kept: bool,
 }
 
-impl Buffers {
-    // Buffers of sevens with so much room.
-    pub fn new(alloc: Global, lits: usize, offs: usize, stack: usize) -> Result<Self, AllocError>
-        ensures lits { IfOk result (λ b. vec_len b.lits ≡ lits) }
-        ensures offs { IfOk result (λ b. vec_len b.offs ≡ offs) }
-        ensures stack { IfOk result (λ b. vec_len b.stack ≡ stack) }
+impl<'a> Buffers<'a> {
+    // Buffers of sevens, of the room that is lent for them.
+    pub fn new(lits: &'a mut [u16], offs: &'a mut [u32], stack: &'a mut [u32]) -> Self
+        ensures lits { result.lits.now ≡ replicate (length lits.old) 7 }
+        ensures offs { result.offs.now ≡ replicate (length offs.old) 7 }
+        ensures stack { result.stack.now ≡ replicate (length stack.old) 7 }
     {
-        Ok(Buffers {
-            lits: vec![in alloc; 7; lits]?,
-            offs: vec![in alloc; 7; offs]?,
-            stack: vec![in alloc; 7; stack]?,
-        })
+        lits.fill(7);
+        offs.fill(7);
+        stack.fill(7);
+        Buffers { lits, offs, stack }
     }
 
     // Whether they are as they came.
     pub fn are_kept(&self) -> bool
-        ensures { result ≡ (list_all (λ x. x == 7) self.now.lits.items
-            && (list_all (λ x. x == 7) self.now.offs.items && list_all (λ x. x == 7) self.now.stack.items)) }
+        ensures { result ≡ (list_all (λ x. x == 7) self.now.lits.now
+            && (list_all (λ x. x == 7) self.now.offs.now && list_all (λ x. x == 7) self.now.stack.now)) }
     {
-        all_are(&self.lits, &7) && all_are(&self.offs, &7) && all_are(&self.stack, &7)
+        all_are(self.lits, &7) && all_are(self.offs, &7) && all_are(self.stack, &7)
     }
 
     // What they hold of a table and a stack of so many entries.
     pub fn left(&self, variables: usize, clauses: usize, removals: usize) -> Left<'_>
         ensures variables { result.table.variables ≡ variables }
         ensures clauses { result.table.clauses ≡ clauses }
-        ensures offs { clauses < 2 ^ 64 - 1 → result.table.offs.now ≡ take (clauses + 1) self.now.offs.items }
+        ensures offs { clauses < 2 ^ 64 - 1 → result.table.offs.now ≡ take (clauses + 1) self.now.offs.now }
     {
-        let (offs, offs_behind) = cut(&self.offs, clauses.saturating_add(1));
+        let (offs, offs_behind) = cut(self.offs, clauses.saturating_add(1));
         let total = offs.last().map_or(0, |end| *end as usize);
-        let (lits, lits_behind) = cut(&self.lits, total);
-        let (stack, stack_behind) = cut(&self.stack, removals.saturating_mul(2));
+        let (lits, lits_behind) = cut(self.lits, total);
+        let (stack, stack_behind) = cut(self.stack, removals.saturating_mul(2));
         Left {
             table: Table {
                 variables,
@@ -96,11 +94,14 @@ mod tests {
     use std::test::Fail;
 
     #[test]
-    fn buffers_have_the_room_asked_for(rt: HostRuntime) -> Result<(), Fail> {
-        let mut buffers = Buffers::new(rt.alloc(), 3, 2, 4)?;
+    fn buffers_have_the_room_lent(rt: HostRuntime) -> Result<(), Fail> {
+        let mut lits = [0; 3];
+        let mut offs = [0; 2];
+        let mut stack = [0; 4];
+        let buffers = Buffers::new(&mut lits, &mut offs, &mut stack);
         assert_eq!(rt; buffers.lits.len(), 3);
         assert!(rt; buffers.are_kept());
-        buffers.stack.push(8)?;
+        buffers.stack[0] = 8;
         assert!(rt; !buffers.are_kept());
         Ok(())
     }

@@ -1,18 +1,18 @@
 // What the programs that run the library lend it, and what they print.
 #![tactic(auto)]
 
-pub mod lay; // lay.rt: long clauses and their offsets
+pub mod lay; // lay.rt: bytes, long clauses and their offsets laid into lent buffers
 pub mod lent; // lent.rt: lent buffers of sevens, and what a reader leaves in them
 
 ghost use Rattle.std.specs.Prelude.{◌↔◌, ◌≤◌, IsTrue, length};
 
-use std::{fmt, io};
+use std::fmt;
 use table::Table;
 
-// Prints what a line is about, and a colon; a label's bytes need not be text.
-pub fn label(rt: &impl Print, label: &[u8]) -> io::Result<()> {
-    rt.write_all(label)?;
-    print!(rt; ": ")
+// Prints what a line is about, and a colon; a label's bytes need not be text. What can't be printed is left out.
+pub fn label(rt: &impl Print, label: &[u8]) {
+    let _ = rt.write_all(label);
+    let _ = print!(rt; ": ");
 }
 
 // Items, each after a blank.
@@ -29,7 +29,7 @@ impl<T: fmt::Display> fmt::Display for Items<'_, T> {
 }
 
 // Whether a table is small enough to be printed whole.
-pub fn is_small(table: &Table<'_>) -> bool
+pub fn is_small(table: &Table<'_, '_>) -> bool
     ensures { IsTrue result ↔ (table.now.clauses ≤ 20) × (length table.now.lits.now ≤ 20) }
 {
     table.clauses <= 20 && table.lits.len() <= 20
@@ -37,9 +37,9 @@ pub fn is_small(table: &Table<'_>) -> bool
 
 // What a table's buffers hold, where it is small, and else how many literals it has.
 #[derive(Clone, Copy, Debug)]
-pub struct Contents<'a>(pub &'a Table<'a>);
+pub struct Contents<'a, 'b>(pub &'a Table<'b, 'b>);
 
-impl fmt::Display for Contents<'_> {
+impl fmt::Display for Contents<'_, '_> {
     fn fmt<W: fmt::Write>(&self, f: &mut fmt::Formatter<W>) -> fmt::Result {
         let table = self.0;
         if is_small(table) {

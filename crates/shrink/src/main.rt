@@ -61,7 +61,11 @@ impl From<fmt::Error> for Failure {
 }
 
 // The whole output: the removals on the stack, oldest first, and the rules that they leave, rising.
-fn say_book<W: Write>(out: &mut Output<W>, opened: &Opened<'_, '_>, live: &[bool]) -> fmt::Result {
+fn say_book<W: Write>(
+    out: &mut Output<W>,
+    opened: &Opened<'_, '_, '_>,
+    live: &[bool],
+) -> fmt::Result {
     let Table {
         variables,
         clauses,

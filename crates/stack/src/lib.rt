@@ -42,13 +42,13 @@ fn bad_entry(t: &SoundTable, stack: &Stack, live: &mut [bool]) -> Option<usize>
 
 // A sound table with a stack that passed the tests that come first: each entry names a clause that is live at that time, and a literal of it.
 #[derive(Clone, Copy, Debug)]
-pub struct Opened<'t, 's> {
-    pub book: SoundTable<'t>,
+pub struct Opened<'l, 'o, 's> {
+    pub book: SoundTable<'l, 'o>,
     pub stack: Stack<'s>,
     pub ghost passed: { Passed (lent book.table) stack.words.now stack.count },
 }
 
-impl Opened<'_, '_> {
+impl Opened<'_, '_, '_> {
     // The number of the first entry, from 1, whose literal does not block its clause among those live at that time; where there is none, what is live after
     // the entries is marked. The index is built, and every clause is marked live. It goes through the entries as `bad_entry` does; one loop
     // for both would need a closure that says what each asks of the marks, which is no plainer.
@@ -89,12 +89,12 @@ impl Opened<'_, '_> {
 // The tests that come first in every call on a table with a stack, in their order: the table is sound, the stack has room, so has any other buffer
 // of the call, as `room` says, and the count and the entries are good. Where all pass, what is live after the entries is marked. The marks are lent: an
 // `Opened` that held them would be copied with their 4,001 bytes. `room` is what the caller found of its own buffer, and is told here since 3 comes before 5.
-pub fn open_stack<'t, 's>(
-    t: &Table<'t>,
+pub fn open_stack<'l, 'o, 's>(
+    t: &Table<'l, 'o>,
     stack: &Stack<'s>,
     room: bool,
     live: &mut [bool],
-) -> Result<Opened<'t, 's>, Refusal>
+) -> Result<Opened<'l, 'o, 's>, Refusal>
     requires { 4000 < length live.old }
     ensures { MatchResult result (λ o. Opens t.now stack.now room live.new o.book.table o.stack) (λ r. lent_tests base (lent t.now) stack.now.words.now stack.now.count room ≡ some r) }
 {

@@ -71,18 +71,19 @@ impl fmt::Display for Refusal {
     }
 }
 
-// A table as it is lent: how many variables and clauses it has, and the two buffers that hold its clauses in compressed rows.
+// A table as it is lent: how many variables and clauses it has, and the two buffers that hold its clauses in compressed rows. Each buffer has a lifetime of
+// its own: a clause's literals stay lent where the offsets are no more.
 #[derive(Clone, Copy, Debug)]
-pub struct Table<'a> {
+pub struct Table<'l, 'o> {
     pub variables: usize,
     pub clauses: usize,
-    pub lits: &'a [u16],
-    pub offs: &'a [u32],
+    pub lits: &'l [u16],
+    pub offs: &'o [u32],
 }
 
-impl<'a> Table<'a> {
+impl<'l, 'o> Table<'l, 'o> {
     // The stretch of clause k.
-    pub fn row(&self, k: usize) -> &'a [u16]
+    pub fn row(&self, k: usize) -> &'l [u16]
         requires shape { Shape (lent self.now) }
         requires named { (1 ≤ k) × (k ≤ self.now.clauses) }
         ensures { Stretch result self.now.lits (row (lent self.now) k) (offset (lent self.now) (k - 1)) }
@@ -140,7 +141,7 @@ impl<'a> Table<'a> {
     }
 
     // The table as a sound one, or why it is refused.
-    pub fn checked(&self) -> Result<SoundTable<'a>, Refusal>
+    pub fn checked(&self) -> Result<SoundTable<'l, 'o>, Refusal>
         ensures { MatchResult result (λ s. s.table ≡ self.now) (λ r. (r ≡ BadTable) × (sound base (lent self.now) ≡ false)) }
     {
         if self.is_sound() {
@@ -151,7 +152,7 @@ impl<'a> Table<'a> {
     }
 
     // A clause's literals, as the very stretch of the lent literal buffer: the empty part of it for an unsound table or a number outside 1 to m.
-    pub fn clause_literals(&self, k: usize) -> &'a [u16]
+    pub fn clause_literals(&self, k: usize) -> &'l [u16]
         ensures { Stretch result self.now.lits (handed_out base (lent self.now) k) (handed_from base (lent self.now) k) }
     {
         if self.is_sound() && 1 <= k && k <= self.clauses {
@@ -163,14 +164,14 @@ impl<'a> Table<'a> {
 
 // A sound table.
 #[derive(Clone, Copy, Debug)]
-pub struct SoundTable<'a> {
-    pub table: Table<'a>,
+pub struct SoundTable<'l, 'o> {
+    pub table: Table<'l, 'o>,
     pub ghost sound: { sound base (lent table) ≡ true },
 }
 
-impl<'a> SoundTable<'a> {
+impl<'l, 'o> SoundTable<'l, 'o> {
     // The stretch of clause k.
-    pub fn row(&self, k: usize) -> &'a [u16]
+    pub fn row(&self, k: usize) -> &'l [u16]
         requires { (1 ≤ k) × (k ≤ self.now.table.clauses) }
         ensures { Stretch result self.now.table.lits (row (lent self.now.table) k) (offset (lent self.now.table) (k - 1)) }
     {

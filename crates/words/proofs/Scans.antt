@@ -1,21 +1,22 @@
 -- The first of the tokens that are left: the gaps before it, and its bytes. Assumes nothing.
-use mathlib.Core.Path.{◌≡◌, refl, sym, ◌∙◌, ap}
+use mathlib.Core.Path.{◌≡◌, refl, sym, ◌∙◌, ap, ap₂}
 use mathlib.Core.Bool.{Bool, true, false, not}
 use mathlib.Core.List.{List, [], ◌∷◌, ◌++◌, append-nil, append_assoc}
 use Prim.Native.Nat.{ℕ, suc, ◌+◌, ◌-◌, ◌<◌, ◌≤◌}
 use native.Mathlib.Omega.{arith}
-use lib.ListN.{length, drop, take, length-drop}
+use lib.ListN.{length, drop, take, get_or, length-drop}
 use lib.Seq.{drop-drop, drop-length}
-use borrow.Author.Tests.{ltb-true, ltb-false}
-use Rattle.std.specs.Prelude.{ltb, Some, None, unwrap_or, position}
+use borrow.Author.Tests.{ltb-true, ltb-false, lt-ltb, le-ltb}
+use Rattle.std.specs.Prelude.{ltb, Option, Some, None, MatchOption, option_map, unwrap_or, position}
 use Rattle.std.specs.List.{position_or_len}
-use Rattle.std.proofs.lemmas.Option.{cond_some, none-some}
-use Rattle.std.proofs.lemmas.List.Sums.{prefix_len-le-length}
+use Rattle.std.proofs.lemmas.Option.{cond_some, none-some, same_Some}
+use Rattle.std.proofs.lemmas.List.{get_or-drop}
+use Rattle.std.proofs.lemmas.List.Sums.{position_or_len_is, passes_at_first, prefix_len-drop_yes, prefix_len-le-length}
 use Rattle.rules.proofs.Logic.{by_bool}
 use Rattle.words.specs.declared.Section.{Section}
 use Rattle.words.specs.Bytes.{class_of}
 use Rattle.words.specs.Tokens.{is_gap, within, between, scan}
-use Rattle.words.specs.Inner.{Next}
+use Rattle.words.specs.Inner.{Next, first_from}
 
 -- where `position` finds one, and where it finds none
 module _ (p : ℕ → Bool) (xs : List ℕ) where
@@ -30,11 +31,43 @@ module _ (p : ℕ → Bool) (xs : List ℕ) where
       (λ t. absurd (none-some (position_or_len p xs) (sym e ∙ rw t refl)))
       (λ f. omega (arith, ltb-false _ _ f, prefix_len-le-length (λ x. not (p x)) xs))
 
-  found_or_end : unwrap_or (position p xs) (length xs) ≡ position_or_len p xs
-  found_or_end =
-      by_bool (ltb (position_or_len p xs) (length xs))
+-- the same from a place on
+some_of : (start k : ℕ) (o : Option ℕ) → option_map (λ n. start + n) o ≡ Some k → (n : ℕ) × (o ≡ Some n) × (start + n ≡ k)
+some_of start k (Some n) e = (n, refl, same_Some (start + n) k e)
+some_of start k None e = absurd (none-some k e)
+
+none_of : (start : ℕ) (o : Option ℕ) → option_map (λ n. start + n) o ≡ None → o ≡ None
+none_of start (Some n) e = absurd (none-some (start + n) (sym e))
+none_of start None e = refl
+
+module _ (p : ℕ → Bool) (s : List ℕ) (start : ℕ) (l : start ≤ length s) where
+  first_or_end : unwrap_or (first_from p s start) (length s) ≡ start + position_or_len p (drop start s)
+  first_or_end =
+      by_bool (ltb (position_or_len p (drop start s)) (length (drop start s)))
       (λ t. rw t refl)
-      (λ f. rw f (omega (arith, ltb-false _ _ f, prefix_len-le-length (λ x. not (p x)) xs)))
+      (λ f. rw f (omega (arith, length-drop start s, ltb-false _ _ f, prefix_len-le-length (λ x. not (p x)) (drop start s))))
+
+  -- what a walk over the places from `start` to the end comes to
+  pub first_is : (r : Option ℕ)
+      → MatchOption r
+      ((k : ℕ) → start ≤ k → k < length s → p (get_or s k 0) ≡ false)
+      (λ i. (start ≤ i) × (i < length s) × (p (get_or s i 0) ≡ true) × ((k : ℕ) → start ≤ k → k < i → p (get_or s k 0) ≡ false))
+      → r ≡ first_from p s start
+  first_is None h =
+      let ys = drop start s in
+      let e : position_or_len p ys ≡ length ys =
+      position_or_len_is p ys (length ys) 0 (omega arith)
+      (λ k q. rw (get_or-drop start s k 0) (h (start + k) (omega arith) (omega (arith, length-drop start s))))
+      (λ q. absurd (omega arith)) in
+      rw (le-ltb (position_or_len p ys) (length ys) (omega (arith, e))) refl
+  first_is (Some i) h =
+      let ys = drop start s in
+      let d : start + (i - start) ≡ i = omega (arith, h.0) in
+      let e : position_or_len p ys ≡ i - start =
+      position_or_len_is p ys (i - start) 0 (omega (arith, h.1, length-drop start s))
+      (λ k q. rw (get_or-drop start s k 0) (h.3 (start + k) (omega arith) (omega arith)))
+      (λ q. rw (get_or-drop start s (i - start) 0, d) h.2) in
+      rw (lt-ltb (position_or_len p ys) (length ys) (omega (arith, e, h.0, h.1, length-drop start s)), e, d) refl
 
 -- whether a byte stands between tokens, and whether it doesn't
 abbrev pub gap : Section → ℕ → Bool
@@ -107,40 +140,35 @@ module _ (section : Section) where
       let z : k + 1 + m ≡ k + suc m = omega arith in
       rw (← q, h, scan, ← z) (ends bs (k + 1) m k (b ∷ []) refl))
 
-  -- where the gaps end before the list does, a token begins
-  stops : (xs : List ℕ) (n : ℕ) → position_or_len (kept section) xs ≡ n → n < length xs → 0 < position_or_len (gap section) (drop n xs)
-  stops [] n e l = absurd (omega arith)
-  stops (b ∷ bs) n e l =
-      by_bool (gap section b)
-      (λ h.
-      let one : 1 + position_or_len (kept section) bs ≡ n = rw h at e in
-      let q : suc (position_or_len (kept section) bs) ≡ n = omega arith in
-      rw (← q) (stops bs (position_or_len (kept section) bs) refl (omega arith)))
-      (λ h. let q : 0 ≡ n = rw h at e in rw (← q, h) (omega arith))
-
 -- the answers of `next_token`
-module _ (section : Section) (s : List ℕ) (start : ℕ) where
-  pub next_none : position (kept section) (drop start s) ≡ None → Next section s start None
+module _ (section : Section) (s : List ℕ) (start : ℕ) (l : start ≤ length s) where
+  pub next_none : first_from (kept section) s start ≡ None → Next section s start None
   unfolding scan
   next_none e =
-      let n = found_none (kept section) (drop start s) e in
+      let n = found_none (kept section) (drop start s) (none_of start (position (kept section) (drop start s)) e) in
       record { same = skips section (drop start s) start (length (drop start s)) n ∙ ap (scan section between (start + length (drop start s))) (drop-length (drop start s)); placed = tt }
 
-  pub next_at : start ≤ length s → (n m : ℕ) → position (kept section) (drop start s) ≡ Some n
-      → m ≡ unwrap_or (position (gap section) (drop (start + n) s)) (length (drop (start + n) s))
-      → Next section s start (Some (record { place = start + n; end = start + n + m }))
-  next_at l n m e q =
-      let f = found_at (kept section) (drop start s) n e in
+  pub next_at : (place end : ℕ) → first_from (kept section) s start ≡ Some place
+      → end ≡ unwrap_or (first_from (gap section) s (place + 1)) (length s)
+      → Next section s start (Some (record { place = place; end = end }))
+  next_at place end e q =
       let ys = drop start s in
+      let o = some_of start place (position (kept section) ys) e in
+      let n = o.0 in
+      let f = found_at (kept section) ys n o.1 in
       let b : n < length ys = omega (arith, f.0, f.1) in
-      let d : drop n ys ≡ drop (start + n) s = drop-drop n start s in
-      let p : position_or_len (gap section) (drop (start + n) s) ≡ m = sym (q ∙ found_or_end (gap section) (drop (start + n) s)) in
-      let z : 0 < m = rw (← p, ← d) (stops section ys n f.1 b) in
-      let w : m ≤ length (drop (start + n) s) = rw (← p) (prefix_len-le-length (λ x. not (gap section x)) (drop (start + n) s)) in
-      let t = skips section ys start n f.1 ∙ ap (scan section between (start + n)) d ∙ begins section (drop (start + n) s) (start + n) m p z in
-      let k : start + n + m - (start + n) ≡ m = omega arith in
-      let r : drop m (drop (start + n) s) ≡ drop (start + n + m) s = drop-drop m (start + n) s in
+      let c : place < length s = omega (arith, b, o.2, length-drop start s) in
+      let d : drop n ys ≡ drop place s = drop-drop n start s ∙ ap (λ k. drop k s) o.2 in
+      let g : get_or ys n 0 ≡ get_or s place 0 = get_or-drop start s n 0 ∙ ap (λ k. get_or s k 0) o.2 in
+      let y : kept section (get_or s place 0) ≡ true = rw (← g, ← f.1) (passes_at_first (kept section) ys 0 f.0) in
+      let m = position_or_len (gap section) (drop place s) in
+      let z : m ≡ 1 + position_or_len (gap section) (drop (place + 1) s) = prefix_len-drop_yes (kept section) s place 0 c y in
+      let u : end ≡ place + m = omega (arith, q ∙ first_or_end (gap section) s (place + 1) (omega arith), z) in
+      let w : m ≤ length (drop place s) = prefix_len-le-length (kept section) (drop place s) in
+      let t = skips section ys start n f.1 ∙ ap₂ (scan section between) o.2 d ∙ begins section (drop place s) place m refl (omega arith) in
+      let k : end - place ≡ m = omega arith in
+      let r : drop m (drop place s) ≡ drop end s = drop-drop m place s ∙ ap (λ k. drop k s) (sym u) in
       record {
-        same = rw (← r, k) t;
-        placed = (omega arith, omega arith, omega (arith, length-drop (start + n) s));
+        same = rw (← r, k, u) t;
+        placed = (omega (arith, o.2), omega arith, omega (arith, length-drop place s));
       }

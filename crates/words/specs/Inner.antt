@@ -1,5 +1,5 @@
 -- What the functions that serve the text reader say of each other. A reader of the contracts of public entries needs none of it. Assumes nothing.
-use Rattle.std.specs.Prelude.{◌≡◌, List, [], ◌∷◌, ℕ, ◌-◌, ◌<◌, ◌≤◌, min, length, drop, take, Option, Some, None}
+use Rattle.std.specs.Prelude.{Bool, ◌≡◌, List, [], ◌∷◌, ℕ, ◌+◌, ◌-◌, ◌<◌, ◌≤◌, min, length, drop, take, Option, Some, None, option_map, position}
 use Rattle.words.specs.declared.Section.{Section}
 use Rattle.words.specs.declared.Span.{Span}
 use Rattle.words.specs.declared.Number.{Number}
@@ -9,6 +9,10 @@ use Rattle.words.specs.Tokens.{Token, tokens_from}
 -- the bytes of s from a up to e
 abbrev pub part : List ℕ → ℕ → ℕ → List ℕ
 part s a e = take (e - a) (drop a s)
+
+-- the place of the first byte of s that passes, from `start` on
+abbrev pub first_from : (ℕ → Bool) → List ℕ → ℕ → Option ℕ
+first_from p s start = option_map (λ n. start + n) (position p (drop start s))
 
 -- the tokens that the answer of `next_token` says are left
 abbrev pub tokens_left : Section → List ℕ → Option Span → List Token

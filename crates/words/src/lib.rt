@@ -2,12 +2,12 @@
 // whole with the place from which it is read, not as the rest of it: refusals name places of the whole text.
 #![tactic(auto)]
 
-ghost use Rattle.std.specs.Prelude.{◌≡◌, ◌≤◌, ◌<◌, not, min, length, drop, get_or, position, option_map};
+ghost use Rattle.std.specs.Prelude.{◌≡◌, ◌≤◌, ◌<◌, not, min, length, drop, get_or, option_map, unwrap_or};
 ghost use Rattle.rules.specs.Walk.{same};
 ghost use Rattle.words.specs.Bytes.{class_of, begins};
 ghost use Rattle.words.specs.Tokens.{is_gap};
 ghost use Rattle.words.specs.Numbers.{digit_of, digits, natural, number};
-ghost use Rattle.words.specs.Inner.{Next, capped};
+ghost use Rattle.words.specs.Inner.{Next, first_from, capped};
 
 // What a byte is to the reader of a text.
 #[derive(Clone, Copy, Debug, PartialEq, Eq)]
@@ -73,18 +73,26 @@ pub fn gap_at(s: &[u8], i: usize, section: Section) -> bool
     is_gap(s[i], section)
 }
 
-// How many bytes stand before the first token. (This chain and the next stand by themselves: within `next_token` they left its proof open.)
-fn gaps_before(rest: &[u8], section: Section) -> Option<usize>
-    ensures { result ≡ position (λ b. not (is_gap section (class_of b))) rest.now }
+// The first byte from `from` on that is no gap.
+fn token_place(s: &[u8], from: usize, section: Section) -> Option<usize>
+    requires { from ≤ length s.now }
+    ensures { result ≡ first_from (λ b. not (is_gap section (class_of b))) s.now from }
 {
-    rest.iter().position(|b| !is_gap(*b, section))
+    (from..s.len()).find(|&i| !gap_at(s, i, section))
 }
 
-// How many bytes stand before the first gap: the same with the test the other way round, a line each.
-fn bytes_before(rest: &[u8], section: Section) -> Option<usize>
-    ensures { result ≡ position (λ b. is_gap section (class_of b)) rest.now }
+// The first gap from `from` on, or the end of the text. This loop stays as it is: with `find`, as above, and `unwrap_or` a text of short clauses took up
+// to a third longer.
+fn token_end(s: &[u8], from: usize, section: Section) -> usize
+    requires { from ≤ length s.now }
+    ensures { result ≡ unwrap_or (first_from (λ b. is_gap section (class_of b)) s.now from) (length s.now) }
 {
-    rest.iter().position(|b| is_gap(*b, section))
+    for i in from..s.len() {
+        if gap_at(s, i, section) {
+            return i;
+        }
+    }
+    s.len()
 }
 
 // Where a token stands: the offset of its first byte, and the offset after its last.
@@ -99,9 +107,8 @@ pub fn next_token(s: &[u8], from: usize, section: Section) -> Option<Span>
     requires { from ≤ length s.now }
     ensures { Next section s.now from result }
 {
-    let place = from + gaps_before(&s[from..], section)?;
-    let rest = &s[place..];
-    let end = place + bytes_before(rest, section).unwrap_or(rest.len());
+    let place = token_place(s, from, section)?;
+    let end = token_end(s, place + 1, section);
     Some(Span { place, end })
 }
 

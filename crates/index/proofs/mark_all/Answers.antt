@@ -1,13 +1,12 @@
-use Rattle.std.proofs.Common.{arith}
-use Rattle.std.proofs.lemmas.Bool.Decides.{nat_tests}
-use Rattle.rules.specs.Book.{one_to}
-use Rattle.index.proofs.Marks.{mark_more, mark_end}
+use Rattle.std.proofs.Common.{arith, ◌≡◌, sym}
+use Rattle.index.proofs.Marks.{none_marked, mark_more}
 use Rattle.index.proofs.mark_all.Goals as goal
-use Rattle.index.proofs.mark_all.Goals.{then-k-ge1, else-k-ge1}
+
+pub loop-k-init : goal.loop-k-init
+loop-k-init c = rw (c.fill.ensures.after (λ y e. e)) (none_marked _)
 
 pub loop-k-preserved : goal.loop-k-preserved
-unfolding one_to
-loop-k-preserved c = mark_more _ _ c.loop-k.k _ (omega arith) c.loop-k.invariant (grind (arith, nat_tests))
+loop-k-preserved c = mark_more c.loop-k.k c.loop-k.live (omega arith) c.loop-k.invariant
 
 pub returns : goal.returns
-returns c = mark_end _ _ c.loop-k.k (omega arith) (omega arith) c.loop-k.invariant
+returns c = let e : c.loop-k.k ≡ c.args.m = omega arith in rw (sym e) c.loop-k.invariant

@@ -7,5 +7,5 @@ use Rattle.saved_read.proofs.fill_rows.Given as goal
 
 abbrev pub invariant-loop-k : goal.invariant-loop-k
 invariant-loop-k l =
-    (l.at ≡ length (all_literals (row_of l.parts) l.k)) × (length l.lits ≡ length l.initial.lits) × (length l.offs ≡ length l.initial.offs)
-    × (l.lits ≡ lay (all_literals (row_of l.parts) l.k) l.initial.lits) × (l.offs ≡ lay (all_offsets (row_of l.parts) l.k) l.initial.offs)
+    (l.at ≡ length (all_literals (row_of l.bytes l.parts) l.k)) × (length l.lits ≡ length l.initial.lits) × (length l.offs ≡ length l.initial.offs)
+    × (l.lits ≡ lay (all_literals (row_of l.bytes l.parts) l.k) l.initial.lits) × (l.offs ≡ lay (all_offsets (row_of l.bytes l.parts) l.k) l.initial.offs)

@@ -1,56 +1,33 @@
 use mathlib.Core.Path.{◌≡◌, sym, ap, ◌∙◌}
 use mathlib.Core.List.{List}
-use Prim.Native.Nat.{ℕ, ◌≤◌}
+use Prim.Native.Nat.{ℕ}
 use native.Mathlib.Omega.{arith}
-use lib.ListN.{length, take}
 use Rattle.std.specs.Prelude.{Ok}
-use Rattle.table.specs.Stack.{lay}
-use Rattle.table.proofs.Laying.{lay_front}
 use Rattle.table.specs.Answer.{test}
 use Rattle.table.specs.declared.Refusal.TheVariants.{BadSaved}
 use Rattle.table.specs.Res.{or_fault}
 use Rattle.saved.specs.Bytes.{numbers_of}
 use Rattle.saved_read.specs.Inner.{heads_of, head_as, sound_on, front_of, line_on}
-use Rattle.saved_read.specs.declared.Kind.{Kind}
-use Rattle.saved_read.specs.declared.Kind.TheVariants.{Live, Removed}
-use Rattle.saved_read.proofs.Numbers.{length_numbers}
+use Rattle.saved_read.proofs.Numbers.{heads_few}
 use Rattle.saved_read.proofs.Found.{line_odd, line_short, line_many, line_full, line_is}
 use Rattle.saved_read.proofs.read_line.Goals as goal
-use Rattle.saved_read.proofs.read_line.Goals.{After-copy_numbers-many, then-value-ne0-via-then-value-ne0, then-value-ne0-via-else-value-ne0+then-value-heads, then-count-gt1000-via-then-count-gt1000, then-count-gt1000-via-else-count-gt1000+then-before-count-gt16000}
+use Rattle.saved_read.proofs.read_line.Goals.{After-sound_line, then-value-ne0-via-then-value-ne0, then-value-ne0-via-else-value-ne0+then-value-heads, then-count-gt1000-via-then-count-gt1000, then-count-gt1000-via-else-count-gt1000+then-before-count-gt16000}
 
-few : (kind : Kind) → (1 ≤ heads_of kind) × (heads_of kind ≤ 2)
-few Live = (omega arith, omega arith)
-few Removed = (omega arith, omega arith)
-
--- the numbers, as they lie in the array that is lent
-front : (v out old : List ℕ) (n : ℕ) → n ≡ length (numbers_of 2 v) → out ≡ lay (numbers_of 2 v) old → take n out ≡ numbers_of 2 v
-front v out old n h e = ap (take n) e ∙ lay_front (numbers_of 2 v) old n (sym h)
-
-module _ (c : After-copy_numbers-many) where
+-- what is left to test once the lengths are within the limits
+module _ (c : After-sound_line) where
   abbrev numbers : List ℕ
-  numbers = take c.copy_numbers-many.result c.copy_numbers-many.new.out
+  numbers = numbers_of 2 c.args.value.now
 
-  whole : numbers ≡ numbers_of 2 c.args.value.now
-  whole = front c.args.value.now _ _ _ c.copy_numbers-many.ensures.count c.copy_numbers-many.ensures.laid
-
-  many : (1 ≤ heads_of c.args.kind) × (heads_of c.args.kind ≤ length numbers)
-  many =
-      let e = ap length whole in
-      let n = length_numbers c.args.value.now in
-      let h = c.heads-heads.ensures in
-      ((few c.args.kind).0, omega arith)
-
-  -- what is left to test once the lengths are within the limits
   left : line_on c.args.kind (head_as c.args.head.now) c.args.before.now.literals c.args.before.now.last c.args.before.now.parts.now c.args.value.now c.args.at
       ≡ or_fault
       (test (sound_on c.args.kind (head_as c.args.head.now) c.args.before.now.last c.args.before.now.parts.now numbers) (BadSaved c.args.at))
       (Ok (front_of c.args.kind numbers))
   left =
       let h = c.heads-heads.ensures in
-      rw whole (line_is c.args.kind (head_as c.args.head.now) _ _ _ c.args.value.now c.args.at (omega arith) (omega arith) (omega arith) (omega arith))
+      line_is c.args.kind (head_as c.args.head.now) _ _ _ c.args.value.now c.args.at (omega arith) (omega arith) (omega arith) (omega arith)
 
-pub returns-then-value-ne0 : goal.returns-then-value-ne0
-returns-then-value-ne0 c =
+pub returns-then-value-ne0-clause-answer : goal.returns-then-value-ne0-clause-answer
+returns-then-value-ne0-clause-answer c =
     let h = c.heads-heads.ensures in
     elim c.then-value-ne0.branch [
       | then-value-ne0-via-then-value-ne0 w ↦ sym (line_odd c.args.kind (head_as c.args.head.now) _ _ _ c.args.value.now c.args.at w.if-value-ne0.true)
@@ -58,8 +35,8 @@ returns-then-value-ne0 c =
           sym (line_short c.args.kind (head_as c.args.head.now) _ _ _ c.args.value.now c.args.at (omega arith) (omega arith))
     ]
 
-pub returns-then-count-gt1000 : goal.returns-then-count-gt1000
-returns-then-count-gt1000 c =
+pub returns-then-count-gt1000-clause-answer : goal.returns-then-count-gt1000-clause-answer
+returns-then-count-gt1000-clause-answer c =
     let h = c.heads-heads.ensures in
     elim c.then-count-gt1000.branch [
       | then-count-gt1000-via-then-count-gt1000 w ↦
@@ -68,46 +45,38 @@ returns-then-count-gt1000 c =
           sym (line_full c.args.kind (head_as c.args.head.now) _ _ _ c.args.value.now c.args.at (omega arith) (omega arith) (omega arith) (omega arith))
     ]
 
-pub copy_numbers-many-requires : goal.copy_numbers-many-requires
-copy_numbers-many-requires c =
-    let n = length_numbers c.args.value.now in
+pub returns-then-value-ne0-clause-stamps : goal.returns-then-value-ne0-clause-stamps
+returns-then-value-ne0-clause-stamps c = λ x. omega (arith, c.requires.stamped x)
+
+pub returns-then-count-gt1000-clause-stamps : goal.returns-then-count-gt1000-clause-stamps
+returns-then-count-gt1000-clause-stamps c = λ x. omega (arith, c.requires.stamped x)
+
+pub sound_line-requires-clause-heads : goal.sound_line-requires-clause-heads
+sound_line-requires-clause-heads c = let h = c.heads-heads.ensures in omega arith
+
+pub returns-then-not-sound_line-clause-answer : goal.returns-then-not-sound_line-clause-answer
+returns-then-not-sound_line-clause-answer c =
+    sym (left (goal.at.returns-then-not-sound_line-clause-answer c).After-sound_line ∙ rw (sym c.sound_line.ensures.answer ∙ c.if-not-sound_line.true))
+
+pub number_at-number-requires : goal.number_at-number-requires
+number_at-number-requires c =
     let h = c.heads-heads.ensures in
-    let z = few c.args.kind in
+    let z = heads_few c.args.kind in
     omega arith
 
-pub slice_bounds-numbers-end : goal.slice_bounds-numbers-end
-slice_bounds-numbers-end c =
-    let n = length_numbers c.args.value.now in
-    let h = c.heads-heads.ensures in
-    let z = few c.args.kind in
-    let m = c.copy_numbers-many.ensures.count in
-    let o = c.copy_numbers-many.auto.out in
+pub number_at-requires : goal.number_at-requires
+number_at-requires c =
+    let h = c.heads-heads.ensures ∙ ap heads_of c.in-Removed.is in
     omega arith
 
-pub slice_bounds-numbers-end-2 : goal.slice_bounds-numbers-end-2
-slice_bounds-numbers-end-2 c = c.copy_numbers-many.ensures.count ∙ sym (ap length (whole (goal.at.slice_bounds-numbers-end-2 c).After-copy_numbers-many))
+pub returns-in-Live-clause-answer : goal.returns-in-Live-clause-answer
+returns-in-Live-clause-answer c =
+    sym
+    (left (goal.at.returns-in-Live-clause-answer c).After-sound_line
+    ∙ rw (sym c.sound_line.ensures.answer ∙ c.if-not-sound_line.false, c.in-Live.is, c.number_at-number.ensures))
 
-pub sound_line-requires : goal.sound_line-requires
-sound_line-requires c = (many (goal.at.sound_line-requires c).After-copy_numbers-many).1
-
-pub returns-then-not-sound_line : goal.returns-then-not-sound_line
-returns-then-not-sound_line c =
-    sym (left (goal.at.returns-then-not-sound_line c).After-copy_numbers-many ∙ rw (sym c.sound_line.ensures ∙ c.if-not-sound_line.true))
-
-pub bounds-numbers-0 : goal.bounds-numbers-0
-bounds-numbers-0 c = let m = many (goal.at.bounds-numbers-0 c).After-copy_numbers-many in omega (arith, m.0, m.1)
-
-pub bounds-numbers-0-in-Removed : goal.bounds-numbers-0-in-Removed
-bounds-numbers-0-in-Removed c =
-    let m = many (goal.at.bounds-numbers-0-in-Removed c).After-copy_numbers-many in omega (arith, m.0, m.1)
-
-pub bounds-numbers-1 : goal.bounds-numbers-1
-bounds-numbers-1 c = omega (arith, (many (goal.at.bounds-numbers-1 c).After-copy_numbers-many).1, ap heads_of c.in-Removed.is)
-
-pub returns-in-Live : goal.returns-in-Live
-returns-in-Live c =
-    sym (left (goal.at.returns-in-Live c).After-copy_numbers-many ∙ rw (sym c.sound_line.ensures ∙ c.if-not-sound_line.false, c.in-Live.is))
-
-pub returns-in-Removed : goal.returns-in-Removed
-returns-in-Removed c =
-    sym (left (goal.at.returns-in-Removed c).After-copy_numbers-many ∙ rw (sym c.sound_line.ensures ∙ c.if-not-sound_line.false, c.in-Removed.is))
+pub returns-in-Removed-clause-answer : goal.returns-in-Removed-clause-answer
+returns-in-Removed-clause-answer c =
+    sym
+    (left (goal.at.returns-in-Removed-clause-answer c).After-sound_line
+    ∙ rw (sym c.sound_line.ensures.answer ∙ c.if-not-sound_line.false, c.in-Removed.is, c.number_at-number.ensures, c.number_at.ensures))

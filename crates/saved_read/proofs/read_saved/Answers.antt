@@ -1,32 +1,46 @@
 use mathlib.Core.Path.{◌≡◌, sym, ap, ◌∙◌}
 use native.Mathlib.Omega.{arith}
-use Prim.Native.Nat.{◌+◌, ◌≤◌}
-use lib.ListN.{length, take}
+use Prim.Native.Nat.{ℕ, ◌+◌, ◌≤◌}
+use lib.ListN.{length, take, length-replicate}
 use borrow.Author.Rules.{rules}
 use Rattle.std.specs.Prelude.{Err}
 use Rattle.table.specs.Table.{table}
 use Rattle.stack.specs.Inner.{Passed}
+use Rattle.rules.specs.Clause.{Clause}
+use Rattle.saved.specs.Form.{Head}
+use Rattle.saved.specs.Reading.{all_literals, all_offsets}
 use Rattle.saved.proofs.Packed.{length_offsets}
 use Rattle.saved_read.specs.Inner.{head_as, row_of}
-use Rattle.saved_read.proofs.Whole.{Headed, headed, head_refused, lines_refused, total_fits, passed_tests, handed, no_lits, no_offs, no_stack, rooms, form_refused}
+use Rattle.saved_read.proofs.Whole.{all_none, Headed, headed, head_refused, lines_refused, total_fits, passed_tests, handed, no_lits, no_offs, no_stack, rooms, form_refused, front_rows, front_ends}
 use Rattle.saved_read.proofs.read_saved.Goals as goal
-use Rattle.saved_read.proofs.read_saved.Goals.{In_ok-read, then-lits-lt16000-via-then-lits-lt16000, then-lits-lt16000-via-else-lits-lt16000+then-offs-lt4001, then-lits-lt16000-via-else-lits-lt16000+else-offs-lt4001+then-stack-lt8000}
+use Rattle.saved_read.proofs.read_saved.Goals.{After-fill_rows-literals, then-lits-lt16000-via-then-lits-lt16000, then-lits-lt16000-via-else-lits-lt16000+then-offs-lt4001, then-lits-lt16000-via-else-lits-lt16000+else-offs-lt4001+then-stack-lt8000}
 
--- the literals fit in the local array, and what table and stack pass
-module _ (c : In_ok-read) where
-  tested : Headed c.args.bytes.now (head_as c.in_ok-head.head)
-  tested = headed c.args.bytes.now (head_as c.in_ok-head.head) c.in_ok-head.ensures
+-- the table that is filled, and what table and stack pass
+module _ (c : After-fill_rows-literals) where
+  abbrev h : Head
+  h = head_as c.in_ok-head.head
 
-  fits : c.in_ok-read.read.literals ≤ 16_000
-  fits = rw c.in_ok-read.ensures.count (total_fits c.args.bytes.now (head_as c.in_ok-head.head) tested _ _ _ c.in_ok-read.ensures.read)
+  abbrev row : ℕ → Clause
+  row = row_of c.args.bytes.now c.scan_lines.new.parts
+
+  tested : Headed c.args.bytes.now h
+  tested = headed c.args.bytes.now h c.in_ok-head.ensures
+
+  fits : c.fill_rows-literals.result ≤ 16_000
+  fits = rw c.fill_rows-literals.ensures.count (total_fits c.args.bytes.now h tested _ _ _ c.in_ok-count.ensures)
+
+  rows_hold : take c.fill_rows-literals.result c.fill_rows-literals.new.lits ≡ all_literals row h.clauses
+  rows_hold = front_rows row h.clauses _ _ _ c.fill_rows-literals.ensures.count c.fill_rows-literals.ensures.lits
+
+  ends_hold : take (h.clauses + 1) c.fill_rows-literals.new.offs ≡ all_offsets row h.clauses
+  ends_hold = front_ends row h.clauses _ _ c.fill_rows-literals.ensures.offs
 
   passed : Passed
-      (table c.in_ok-head.head.variables c.in_ok-head.head.clauses (take c.in_ok-read.read.literals c.read_rows.new.rows)
-      (take (c.in_ok-head.head.clauses + 1) c.read_rows.new.ends))
-      c.read_rows.new.words c.in_ok-read.read.removals
+      (table h.variables h.clauses (take c.fill_rows-literals.result c.fill_rows-literals.new.lits) (take (h.clauses + 1) c.fill_rows-literals.new.offs))
+      c.scan_lines.new.words c.in_ok-count.count
   passed =
-      passed_tests c.args.bytes.now (head_as c.in_ok-head.head) tested _ _ _ c.in_ok-read.ensures.read
-      _ _ c.in_ok-read.ensures.rows_hold c.in_ok-read.ensures.ends_hold c.in_ok-head.head.limits.1 (search rules)
+      passed_tests c.args.bytes.now h tested _ _ _ c.in_ok-count.ensures
+      _ _ rows_hold ends_hold c.in_ok-head.head.limits.1 (search rules)
 
 pub returns-then-lits-lt16000 : goal.returns-then-lits-lt16000
 returns-then-lits-lt16000 c =
@@ -45,19 +59,42 @@ returns-in_err-head c =
     let r : c.from_residual.result ≡ Err c.in_err-head.field-0.0 = search rules in
     rw r (form_refused c.args.bytes.now c.args.lits.now c.args.offs.now c.args.stack.now _ (omega arith) (omega arith) (omega arith) (head_refused c.args.bytes.now _ c.in_err-head.ensures))
 
-pub returns-in_err-read : goal.returns-in_err-read
-returns-in_err-read c =
+pub scan_lines-requires : goal.scan_lines-requires
+scan_lines-requires c =
+    record {
+      long = (headed c.args.bytes.now (head_as c.in_ok-head.head) c.in_ok-head.ensures).long;
+      parts_room = simp length-replicate (omega arith);
+      words_room = simp length-replicate (omega arith);
+      none_met = λ k. all_none 4001 k;
+    }
+
+pub returns-in_err-count : goal.returns-in_err-count
+returns-in_err-count c =
     let g = headed c.args.bytes.now (head_as c.in_ok-head.head) c.in_ok-head.ensures in
-    let r : c.from_residual-in_err-read.result ≡ Err c.in_err-read.field-0.0 = search rules in
+    let r : c.from_residual-in_err-count.result ≡ Err c.in_err-count.field-0.0 = search rules in
     rw r
     (form_refused c.args.bytes.now c.args.lits.now c.args.offs.now c.args.stack.now _ (omega arith) (omega arith) (omega arith)
-    (lines_refused c.args.bytes.now (head_as c.in_ok-head.head) g _ c.in_err-read.ensures))
+    (lines_refused c.args.bytes.now (head_as c.in_ok-head.head) g _ c.in_err-count.ensures))
+
+pub fill_rows-literals-requires-clause-within : goal.fill_rows-literals-requires-clause-within
+fill_rows-literals-requires-clause-within c = c.in_ok-count.ensures.within
+
+pub fill_rows-literals-requires-clause-clauses_fit : goal.fill_rows-literals-requires-clause-clauses_fit
+fill_rows-literals-requires-clause-clauses_fit c =
+    let u = c.in_ok-head.head.limits.1 in
+    let p = c.scan_lines.auto.parts in
+    (search rules, search rules)
+
+pub fill_rows-literals-requires-clause-literals_fit : goal.fill_rows-literals-requires-clause-literals_fit
+fill_rows-literals-requires-clause-literals_fit c =
+    let f = total_fits c.args.bytes.now (head_as c.in_ok-head.head) (headed c.args.bytes.now (head_as c.in_ok-head.head) c.in_ok-head.ensures) _ _ _ c.in_ok-count.ensures in
+    (simp length-replicate (omega arith), simp length-replicate (omega arith))
 
 pub slice_bounds-rows-end : goal.slice_bounds-rows-end
-slice_bounds-rows-end c = omega (arith, fits (goal.at.slice_bounds-rows-end c).In_ok-read)
+slice_bounds-rows-end c = omega (arith, fits (goal.at.slice_bounds-rows-end c).After-fill_rows-literals)
 
 pub slice_bounds-table-end : goal.slice_bounds-table-end
-slice_bounds-table-end c = c.in_ok-read.ensures.count ∙ sym (ap length c.in_ok-read.ensures.rows_hold)
+slice_bounds-table-end c = c.fill_rows-literals.ensures.count ∙ sym (ap length (rows_hold (goal.at.slice_bounds-table-end c).After-fill_rows-literals))
 
 pub overflow_add-ends : goal.overflow_add-ends
 overflow_add-ends c = omega (arith, c.in_ok-head.head.limits.1)
@@ -67,31 +104,34 @@ slice_bounds-ends-end c = omega (arith, c.in_ok-head.head.limits.1)
 
 pub slice_bounds-table-end-2 : goal.slice_bounds-table-end-2
 slice_bounds-table-end-2 c =
-    sym (length_offsets (row_of c.in_ok-read.ensures.parts) c.in_ok-head.head.clauses) ∙ sym (ap length c.in_ok-read.ensures.ends_hold)
+    let a = (goal.at.slice_bounds-table-end-2 c).After-fill_rows-literals in
+    sym (length_offsets (row a) c.in_ok-head.head.clauses) ∙ sym (ap length (ends_hold a))
 
 pub invariant_of-opened : goal.invariant_of-opened
-invariant_of-opened c = let o = c in record { sound = (passed (goal.at.invariant_of-opened o).In_ok-read).table_sound }
+invariant_of-opened c = let o = c in record { sound = (passed (goal.at.invariant_of-opened o).After-fill_rows-literals).table_sound }
 
 pub invariant_of-opened-2 : goal.invariant_of-opened-2
-invariant_of-opened-2 c = let o = c in record { passed = passed (goal.at.invariant_of-opened-2 o).In_ok-read }
+invariant_of-opened-2 c = let o = c in record { passed = passed (goal.at.invariant_of-opened-2 o).After-fill_rows-literals }
 
 pub hand_out-requires-clause-lits : goal.hand_out-requires-clause-lits
 hand_out-requires-clause-lits c =
-    let n = c.in_ok-read.ensures.count ∙ sym (ap length c.in_ok-read.ensures.rows_hold) in
-    omega (arith, fits (goal.at.hand_out-requires-clause-lits c).In_ok-read)
+    let a = (goal.at.hand_out-requires-clause-lits c).After-fill_rows-literals in
+    let n = c.fill_rows-literals.ensures.count ∙ sym (ap length (rows_hold a)) in
+    omega (arith, fits a)
 
 pub hand_out-requires-clause-offs : goal.hand_out-requires-clause-offs
 hand_out-requires-clause-offs c =
-    let e = ap length c.in_ok-read.ensures.ends_hold in
-    let o = length_offsets (row_of c.in_ok-read.ensures.parts) c.in_ok-head.head.clauses in
+    let a = (goal.at.hand_out-requires-clause-offs c).After-fill_rows-literals in
+    let e = ap length (ends_hold a) in
+    let o = length_offsets (row a) c.in_ok-head.head.clauses in
     omega (arith, c.in_ok-head.head.limits.1)
 
 pub hand_out-requires-clause-stack : goal.hand_out-requires-clause-stack
-hand_out-requires-clause-stack c = omega (arith, c.in_ok-read.ensures.read.few, c.in_ok-head.head.limits.1)
+hand_out-requires-clause-stack c = omega (arith, c.in_ok-count.ensures.few, c.in_ok-head.head.limits.1)
 
 pub returns : goal.returns
 returns c =
-    let a = (goal.at.returns c).In_ok-read in
+    let a = (goal.at.returns c).After-fill_rows-literals in
     c.hand_out.ensures
-    ∙ handed c.args.bytes.now (head_as c.in_ok-head.head) (tested a) _ _ _ c.in_ok-read.ensures.read _ _ c.in_ok-read.ensures.rows_hold c.in_ok-read.ensures.ends_hold c.in_ok-head.head.limits.1 (search rules) c.args.lits.now c.args.offs.now c.args.stack.now
+    ∙ handed c.args.bytes.now (h a) (tested a) _ _ _ c.in_ok-count.ensures _ _ (rows_hold a) (ends_hold a) c.in_ok-head.head.limits.1 (search rules) c.args.lits.now c.args.offs.now c.args.stack.now
     ∙ rooms c.args.bytes.now c.args.lits.now c.args.offs.now c.args.stack.now (omega arith) (omega arith) (omega arith)

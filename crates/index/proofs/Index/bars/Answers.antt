@@ -1,6 +1,5 @@
 use Rattle.std.proofs.Common.{sym, ◌∙◌, ap}
 use Rattle.rules.specs.Blocking.{resists}
-use Rattle.table.proofs.Soundness.{sound_of}
 use Rattle.index.specs.Index.{live_of}
 use Rattle.index.proofs.Plains.{row_plain}
 use Rattle.index.proofs.Reasons.{bars_live, bars_gone}

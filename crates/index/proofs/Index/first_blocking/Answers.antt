@@ -2,7 +2,6 @@ use Rattle.std.proofs.Common.{arith}
 use Rattle.rules.proofs.Members.{own_at}
 use Rattle.table.specs.Lent.{lent}
 use Rattle.table.proofs.Found.{none_is, some_is}
-use Rattle.table.proofs.Soundness.{sound_of}
 use Rattle.index.proofs.Reasons.{reason_here, reason_next, reason_none}
 use Rattle.index.proofs.Index.first_blocking.Goals as goal
 
